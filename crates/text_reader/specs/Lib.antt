@@ -1,0 +1,4 @@
+pub mod Tokens
+pub mod Places
+pub mod Faults
+pub mod Reading
