@@ -41,7 +41,7 @@ pub value-more : (i v d : ℕ) → v < 10 ^ i → d ≤ 9 → 10 * v + d < 10 ^ 
 value-more i v d h s = rw (add-one i, pow-succ' 10 i) (omega arith)
 
 -- digits, and the number that they write
-abbrev all-digits : List ℕ → Bool
+abbrev pub all-digits : List ℕ → Bool
 all-digits [] = true
 all-digits (c ∷ cs) = digit c && all-digits cs
 

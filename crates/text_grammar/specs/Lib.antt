@@ -1,0 +1,3 @@
+pub mod Circuits
+pub mod Syntaxes
+pub mod Verdicts
