@@ -48,11 +48,11 @@ written-parts : (c : Circuit) → written c ≡ parts (c .qubits) (length (c .op
 unfolding written lines-of line-bytes parts
 written-parts c =
     let reads : joined line-bytes (map the-question (c .reads)) ≡ joined question-line (c .reads) =
-          ap (joined line-bytes) (sym (append-nil (map the-question (c .reads)))) ∙ joined-kind the-question question-line (c .reads) [] (λ q. refl) ∙ append-nil (joined question-line (c .reads)) in
+    ap (joined line-bytes) (sym (append-nil (map the-question (c .reads)))) ∙ joined-kind the-question question-line (c .reads) [] (λ q. refl) ∙ append-nil (joined question-line (c .reads)) in
     let steps = joined-kind the-step step-line (c .steps) (the-section Reads (length (c .reads)) ∷ map the-question (c .reads)) (λ s. refl)
-          ∙ ap (λ l. joined step-line (c .steps) ++ (section-line Reads (length (c .reads)) ++ l)) reads in
+    ∙ ap (λ l. joined step-line (c .steps) ++ (section-line Reads (length (c .reads)) ++ l)) reads in
     let opens = joined-kind the-opening opening-line (c .opens) (the-section Steps (length (c .steps)) ∷ (map the-step (c .steps) ++ (the-section Reads (length (c .reads)) ∷ map the-question (c .reads)))) (λ o. refl)
-          ∙ ap (λ l. joined opening-line (c .opens) ++ (section-line Steps (length (c .steps)) ++ l)) steps in
+    ∙ ap (λ l. joined opening-line (c .opens) ++ (section-line Steps (length (c .steps)) ++ l)) steps in
     ap (λ l. section-line Qubits (c .qubits) ++ (section-line Opens (length (c .opens)) ++ l)) opens
 
 joined-parts : (n a b d : ℕ) (os : List Opening) (ss : List Step) (qs : List Question) (t r₁ r₂ r₃ r₄ r₅ r₆ r₇ : List ℕ)
@@ -64,12 +64,12 @@ unfolding parts
 joined-parts n a b d os ss qs t r₁ r₂ r₃ r₄ r₅ r₆ r₇ e₁ e₂ e₃ e₄ e₅ e₆ e₇ z la lb ld =
     let last : r₆ ≡ joined question-line qs = e₇ ∙ ap (λ l. joined question-line qs ++ l) z ∙ append-nil (joined question-line qs) in
     let whole : t ≡ parts n a b d os ss qs =
-          e₁ ∙ ap (λ l. section-line Qubits n ++ l)
-          (e₂ ∙ ap (λ l. section-line Opens a ++ l)
-          (e₃ ∙ ap (λ l. joined opening-line os ++ l)
-          (e₄ ∙ ap (λ l. section-line Steps b ++ l)
-          (e₅ ∙ ap (λ l. joined step-line ss ++ l)
-          (e₆ ∙ ap (λ l. section-line Reads d ++ l) last))))) in
+    e₁ ∙ ap (λ l. section-line Qubits n ++ l)
+    (e₂ ∙ ap (λ l. section-line Opens a ++ l)
+    (e₃ ∙ ap (λ l. joined opening-line os ++ l)
+    (e₄ ∙ ap (λ l. section-line Steps b ++ l)
+    (e₅ ∙ ap (λ l. joined step-line ss ++ l)
+    (e₆ ∙ ap (λ l. section-line Reads d ++ l) last))))) in
     whole ∙ (λ i. parts n (sym la i) (sym lb i) (sym ld i) os ss qs) ∙ sym (written-parts (record { qubits = n; opens = os; steps = ss; reads = qs }))
 
 module _ (ranges : Ranges) (few : Writable ranges) where
@@ -87,14 +87,16 @@ module _ (ranges : Ranges) (few : Writable ranges) where
       let z = finish-back _ (f₇ .rest) r (f₇ .goes) in
       let d : Circuit = record { qubits = n; opens = f₃ .value; steps = f₅ .value; reads = f₇ .value } in
       let good : In-ranges ranges d = record {
-            qubits-within = f₁ .fine;
-            opens-within = (omega (arith, f₃ .fine .0, f₂ .fine .0), omega (arith, f₃ .fine .0, f₂ .fine .1));
-            steps-within = (omega (arith, f₅ .fine .0, f₄ .fine .0), omega (arith, f₅ .fine .0, f₄ .fine .1));
-            reads-within = (omega (arith, f₇ .fine .0, f₆ .fine .0), omega (arith, f₇ .fine .0, f₆ .fine .1));
-            opens-fit = f₃ .fine .1; steps-fit = f₅ .fine .1; reads-fit = f₇ .fine .1;
-          } in
+        qubits-within = f₁ .fine;
+        opens-within = (omega (arith, f₃ .fine .0, f₂ .fine .0), omega (arith, f₃ .fine .0, f₂ .fine .1));
+        steps-within = (omega (arith, f₅ .fine .0, f₄ .fine .0), omega (arith, f₅ .fine .0, f₄ .fine .1));
+        reads-within = (omega (arith, f₇ .fine .0, f₆ .fine .0), omega (arith, f₇ .fine .0, f₆ .fine .1));
+        opens-fit = f₃ .fine .1;
+        steps-fit = f₅ .fine .1;
+        reads-fit = f₇ .fine .1;
+      } in
       let text = joined-parts n (f₂ .value) (f₄ .value) (f₆ .value) (f₃ .value) (f₅ .value) (f₇ .value) t (f₁ .rest) (f₂ .rest) (f₃ .rest) (f₄ .rest) (f₅ .rest) (f₆ .rest) (f₇ .rest)
-            (f₁ .text) (f₂ .text) (f₃ .text) (f₄ .text) (f₅ .text) (f₆ .text) (f₇ .text) (z .0) (f₃ .fine .0) (f₅ .fine .0) (f₇ .fine .0) in
+      (f₁ .text) (f₂ .text) (f₃ .text) (f₄ .text) (f₅ .text) (f₆ .text) (f₇ .text) (z .0) (f₃ .fine .0) (f₅ .fine .0) (f₇ .fine .0) in
       subst (λ (x : Reading). In-ranges ranges (x .0) × (t ≡ written (x .0)) × (x ≡ (x .0, []))) (z .1) (good, text, refl)
 
   parts-read : (c : Circuit) → In-ranges ranges c → read (circuit-within ranges) (parts (c .qubits) (length (c .opens)) (length (c .steps)) (length (c .reads)) (c .opens) (c .steps) (c .reads)) ≡ Ok (c, [])

@@ -138,21 +138,21 @@ breaks (finish d) [] s o e = absurd (err-not-ok s (d, []) (sym e))
 breaks (finish d) (b ∷ bs) s o e =
     subst (Breaks (finish d) (b ∷ bs)) (sym (stop-is (b ∷ bs) s _ e refl))
     (at-once (finish d) (b ∷ bs) tt (λ u q c h. let z = finish-back d u c h in
-      let f : head [] ≡ Some b = ap head (sym (z .0)) ∙ same-head (b ∷ bs) u q in
-      let x : _≡_ {A = ℕ} 0 1 = cc in let y : ⊥ = omega arith in y))
+    let f : head [] ≡ Some b = ap head (sym (z .0)) ∙ same-head (b ∷ bs) u q in
+    let x : _≡_ {A = ℕ} 0 1 = cc in let y : ⊥ = omega arith in y))
 breaks (byte x p) [] s o e =
     subst (Breaks (byte x p) []) (sym (stop-is [] s _ e refl))
     (at-once (byte x p) [] o (λ u q c h. let z = byte-back x p u c h in
-      let f : Some x ≡ None = ap head (sym (z .1 .0)) ∙ same-head [] u q in
-      let y : _≡_ {A = ℕ} 0 1 = cc in let w : ⊥ = omega arith in w))
+    let f : Some x ≡ None = ap head (sym (z .1 .0)) ∙ same-head [] u q in
+    let y : _≡_ {A = ℕ} 0 1 = cc in let w : ⊥ = omega arith in w))
 breaks (byte x p) (b ∷ bs) s o e = go (eqb b x) refl e (breaks p bs s o)
   where
     go : (q : Bool) → eqb b x ≡ q → cond q (read p bs) (Err (unexpected (b ∷ bs))) ≡ Err s → (read p bs ≡ Err s → Breaks p bs (left-at s)) → Breaks (byte x p) (b ∷ bs) (left-at s)
     go false h f ih =
         subst (Breaks (byte x p) (b ∷ bs)) (sym (stop-is (b ∷ bs) s _ f refl))
         (at-once (byte x p) (b ∷ bs) o (λ u q c r. let z = byte-back x p u c r in
-          let g : Some x ≡ Some b = ap head (sym (z .1 .0)) ∙ same-head (b ∷ bs) u q in
-          let y : x ≡ b = cc in eqb-false b x h (sym y)))
+        let g : Some x ≡ Some b = ap head (sym (z .1 .0)) ∙ same-head (b ∷ bs) u q in
+        let y : x ≡ b = cc in eqb-false b x h (sym y)))
     go true h f ih =
         let r = ih f in
         record {
@@ -165,6 +165,7 @@ breaks (word v next) t s o e = go (v (first-word t)) refl e (λ h. breaks (next 
   where
     not-here : ((v (first-word t) ≡ fits) → ⊥) → (u : List ℕ) → token u ≡ token t → (c : Reading) → read (word v next) u ≡ Ok c → ⊥
     not-here n u q c r = n (ap v (sym (same-first-word t u q)) ∙ word-back v next u c r .0)
+
     go : (q : Verdict) → v (first-word t) ≡ q → judged q t (read (next (first-word t)) (past-word t)) ≡ Err s → (v (first-word t) ≡ fits → read (next (first-word t)) (past-word t) ≡ Err s → Breaks (next (first-word t)) (past-word t) (left-at s)) → Breaks (word v next) t (left-at s)
     go wrong h f ih =
         subst (Breaks (word v next) t) (sym (stop-is t s _ f refl))

@@ -81,7 +81,9 @@ through-here v next t n o h d s =
     let r = possible (next w) (k .1) in
     let del = parted-text (next w) (r .0) (r .1 .0) (k .0) (r .1 .1) in
     record {
-      before = []; whole = refl; more = w ++ r .0;
+      before = [];
+      whole = refl;
+      more = w ++ r .0;
       there = count-token (w ++ r .0) n (run-whole word-byte w (r .0) (run-all word-byte t) del ∙ d) s ∙ sym (count-token t n d s);
       found = r .1 .0;
       goes = word-on v next w (r .0) (run-all word-byte t) del h ∙ r .1 .1;
@@ -94,7 +96,9 @@ through-word v next t rest h r =
     record {
       before = w ++ r .before;
       whole = split-run word-byte t ∙ ap (λ l. w ++ l) (r .whole) ∙ sym (append-assoc w (r .before) rest);
-      more = r .more; there = r .there; found = r .found;
+      more = r .more;
+      there = r .there;
+      found = r .found;
       goes = ap (read (word v next)) (append-assoc w (r .before) (r .more)) ∙ word-on v next w (r .before ++ r .more) (run-all word-byte t) (apart (r .before) rest (r .more) d (r .there)) h ∙ r .goes;
     }
 
@@ -114,7 +118,9 @@ let-through (byte x p) q (b ∷ bs) n rest o o' l e =
         record {
           before = x ∷ r .before;
           whole = ap (λ z. z ∷ bs) (eqb-true b x h) ∙ ap (λ m. x ∷ m) (r .whole);
-          more = r .more; there = r .there; found = r .found;
+          more = r .more;
+          there = r .there;
+          found = r .found;
           goes = byte-on x (l .0) (r .before ++ r .more) ∙ r .goes;
         }
 let-through (word v next) q t n rest o o' l e =

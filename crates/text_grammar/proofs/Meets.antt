@@ -75,10 +75,11 @@ open-section : (r : CountRange) (s : Section) → (n : ℕ) × (Small n × (rang
 unfolding Open section section-name count
 open-section r s example k o =
     let n = example .0 in
-    let small = example .1 .0 in
-    ((section-word s, (section-is-word s, ap when (section-has s))),
-     λ w h. (refl, ((decimal n, (decimal-is-word n small, ap (ranged r) (number-decimal n small) ∙ example .1 .1)), λ w h. (refl, o _), λ w m e. ranged-far r w (number-of w) m refl e)),
-     λ w m e. absurd (when-near _ m e))
+    let small = example .1 .0 in (
+      (section-word s, (section-is-word s, ap when (section-has s))),
+      λ w h. (refl, ((decimal n, (decimal-is-word n small, ap (ranged r) (number-decimal n small) ∙ example .1 .1)), λ w h. (refl, o _), λ w m e. ranged-far r w (number-of w) m refl e)),
+      λ w m e. absurd (when-near _ m e),
+    )
 
 open-spaced : (k : ℕ → Syntax) → Ready k → Open (spaced-number k)
 unfolding Open spaced-number

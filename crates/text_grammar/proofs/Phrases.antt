@@ -53,8 +53,8 @@ number-word w None h e = absurd (wrong-not-fits e)
 pub number-reads : Faithful number decimal Small Delimited
 unfolding number
 number-reads = word-reads _ _ decimal Small
-  (λ w e. number-word w (number-of w) refl e)
-  (λ n s. (ap fitting (number-decimal n s), ap (otherwise 0) (number-decimal n s), decimal-is-word n s))
+    (λ w e. number-word w (number-of w) refl e)
+    (λ n s. (ap fitting (number-decimal n s), ap (otherwise 0) (number-decimal n s), decimal-is-word n s))
 
 count-word : (r : CountRange) (w : List ℕ) (o : Option ℕ) → number-of w ≡ o → ranged r o ≡ fits → (w ≡ decimal (otherwise 0 o)) × Within r (otherwise 0 o)
 count-word r w None h e = absurd (wrong-not-fits e)
@@ -67,18 +67,19 @@ count-word r w (Some n) h e = go (leb (r .least) n && leb n (r .greatest)) refl 
 pub count-reads : (r : CountRange) → Small (r .greatest) → Faithful (count r) decimal (Within r) Delimited
 unfolding count
 count-reads r few = word-reads _ _ decimal (Within r)
-  (λ w e. count-word r w (number-of w) refl e)
-  (λ n s.
+    (λ w e. count-word r w (number-of w) refl e)
+    (λ n s.
     let small : Small n = omega (arith, s .1, few) in (
-    ap (ranged r) (number-decimal n small) ∙ ap (λ q. cond q fits (beyond n)) (and-from _ _ (le-leb _ _ (s .0)) (le-leb _ _ (s .1))),
-    ap (otherwise 0) (number-decimal n small),
-    decimal-is-word n small))
+      ap (ranged r) (number-decimal n small) ∙ ap (λ q. cond q fits (beyond n)) (and-from _ _ (le-leb _ _ (s .0)) (le-leb _ _ (s .1))),
+      ap (otherwise 0) (number-decimal n small),
+      decimal-is-word n small,
+    ))
 
 pub index-reads : (n : ℕ) → Faithful (index n) index-word (λ bits. length bits ≡ n) Delimited
 unfolding index
 index-reads n = word-reads _ bits-of index-word (λ bits. length bits ≡ n)
-  (λ w e. let p = and-parts (eqb (length w) n) (all-bits w) (when-fits _ e) in (index-says w (p .1), bits-long w ∙ eqb-true _ _ (p .0)))
-  (λ bits s. (ap when (word-index n bits s), bits-back bits, index-is-word bits))
+    (λ w e. let p = and-parts (eqb (length w) n) (all-bits w) (when-fits _ e) in (index-says w (p .1), bits-long w ∙ eqb-true _ _ (p .0)))
+    (λ bits s. (ap when (word-index n bits s), bits-back bits, index-is-word bits))
 
 bit-word : (w : List ℕ) → is-index 1 w ≡ true → w ≡ bit-byte (eqb (getD w 0 0) 49) ∷ []
 unfolding all-bits
@@ -108,14 +109,14 @@ name-word spelling w d None h e = absurd (wrong-not-fits e)
 pub step-name-reads : Faithful step-name step-word (λ s. Unit {0}) Delimited
 unfolding step-name
 step-name-reads = word-reads _ _ step-word (λ s. Unit {0})
-  (λ w e. (name-word step-word w Close (step-of w) (named-is step-word steps w) e, tt))
-  (λ s f. (ap fitting (step-named s), ap (otherwise Close) (step-named s), step-is-word s))
+    (λ w e. (name-word step-word w Close (step-of w) (named-is step-word steps w) e, tt))
+    (λ s f. (ap fitting (step-named s), ap (otherwise Close) (step-named s), step-is-word s))
 
 pub question-name-reads : Faithful question-name question-word (λ q. Unit {0}) Delimited
 unfolding question-name
 question-name-reads = word-reads _ _ question-word (λ q. Unit {0})
-  (λ w e. (name-word question-word w Same (question-of w) (named-is question-word questions w) e, tt))
-  (λ q f. (ap fitting (question-named q), ap (otherwise Same) (question-named q), question-is-word q))
+    (λ w e. (name-word question-word w Same (question-of w) (named-is question-word questions w) e, tt))
+    (λ q f. (ap fitting (question-named q), ap (otherwise Same) (question-named q), question-is-word q))
 
 -- numbers, each after a space
 abbrev after-space : ℕ → List ℕ
@@ -168,7 +169,9 @@ section-reads r s few =
           let h = has-is (first-word t) (section-word s) (when-fits _ (b .0)) in
           let f = body .sound k (past-word t) c (b .1) in
           record {
-            value = f .value; fine = f .fine; rest = f .rest;
+            value = f .value;
+            fine = f .fine;
+            rest = f .rest;
             text = split-run word-byte t ∙ (λ i. h i ++ f .text i) ∙ sym (append-assoc (section-word s) ((32 ∷ decimal (f .value)) ++ (10 ∷ [])) (f .rest));
             goes = f .goes;
           };

@@ -84,6 +84,7 @@ right text = whole (ltb 16384 (length text)) refl
           no-text = not-text text (out-of-range n rest) e;
           says = (rest, (count-token rest n (h .0) (h .1), (misfit text rest b, (f .more, (f .there, (f .found .0, s .0, s .1))))));
         }
+
     whole : (q : Bool) → ltb 16384 (length text) ≡ q → Right text (cond q (Err (TooLong (length text))) (circuit-read (located text (read circuit text))))
     whole true e = let l = ltb-true _ _ e in record { no-text = λ t. l; says = (refl, l) }
     whole false e = answer (read circuit text) refl (ltb-false _ _ e)

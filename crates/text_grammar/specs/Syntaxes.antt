@@ -87,8 +87,8 @@ number k = word (λ w. fitting (number-of w)) (λ w. k (otherwise 0 (number-of w
 unfoldable pub count : CountRange → (ℕ → Syntax) → Syntax
 count r k = word (λ w. ranged r (number-of w)) (λ w. k (otherwise 0 (number-of w)))
 
-unfoldable pub section-name : Section → Syntax → Syntax
-section-name s k = word (λ w. when (has w 0 (section-word s))) (λ w. k)
+unfoldable pub section-name : Section → (Unit {0} → Syntax) → Syntax
+section-name s k = word (λ w. when (has w 0 (section-word s))) (λ w. k tt)
 
 unfoldable pub index : ℕ → (List Bool → Syntax) → Syntax
 index n k = word (λ w. when (is-index n w)) (λ w. k (bits-of w))
@@ -134,7 +134,7 @@ unfoldable pub question : ℕ → (Question → Syntax) → Syntax
 question n k = question-name (question-tail n k)
 
 unfoldable pub section : CountRange → Section → (ℕ → Syntax) → Syntax
-section r s k = section-name s (space (count r (λ n. line-end (k n))))
+section r s k = section-name s (λ u. space (count r (λ n. line-end (k n))))
 
 -- a whole text
 unfoldable pub circuit-within : Ranges → Syntax

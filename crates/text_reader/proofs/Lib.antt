@@ -1,3 +1,3 @@
 pub mod Runs
 pub mod Spots
-mod Standing
+pub mod Standing

@@ -84,7 +84,7 @@ stands-word text pos n place s e =
     let one : Place = record { line = 1; column = 1 } in
     let w = first-word (drop pos text) in
     let cut : take (pos + n) text ≡ take pos text ++ w =
-          take-add pos n text ∙ ap (λ k. take pos text ++ take k (drop pos text)) e ∙ ap (λ l. take pos text ++ l) (take-run word-byte (drop pos text)) in
+    take-add pos n text ∙ ap (λ k. take pos text ++ take k (drop pos text)) e ∙ ap (λ l. take pos text ++ l) (take-run word-byte (drop pos text)) in
     let q = ap (λ l. moved-by l one) cut ∙ moved-append (take pos text) w one ∙ moved-on-line w _ (word-on-line w (run-all word-byte (drop pos text))) in
     let f = run-within word-byte (drop pos text) in
     record {

@@ -17,9 +17,15 @@ impl Place {
         ensures { λ r. ⌜ r ≡ moved byte self ⌝ }
     {
         if byte == b'\n' {
-            Place { line: self.line + 1, column: 1 }
+            Place {
+                line: self.line + 1,
+                column: 1,
+            }
         } else {
-            Place { line: self.line, column: self.column + 1 }
+            Place {
+                line: self.line,
+                column: self.column + 1,
+            }
         }
     }
 }

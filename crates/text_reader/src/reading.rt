@@ -16,7 +16,11 @@ impl<'a> Reader<'a> {
         ensures same { λ r. ⌜ text-of r ≡ now (text .entry) ⌝ }
         ensures whole { λ r. ⌜ rest r ≡ now (text .entry) ⌝ }
     {
-        Reader { text, pos: 0, place: Place { line: 1, column: 1 } }
+        Reader {
+            text,
+            pos: 0,
+            place: Place { line: 1, column: 1 },
+        }
     }
 
     /// The place where it stands.
@@ -37,7 +41,11 @@ impl<'a> Reader<'a> {
         let n = word_len(&text[from..]);
         self.place.column += n;
         self.pos = from + n;
-        Word { bytes: &text[from..from + n], byte, place }
+        Word {
+            bytes: &text[from..from + n],
+            byte,
+            place,
+        }
     }
 
     /// Lends what is left of the line, without its end, and stays.
@@ -67,20 +75,31 @@ impl<'a> Reader<'a> {
     pub fn end(&self) -> Result<(), TextFault>
         ensures { λ r. ⌜ Ended (now (self .entry)) r ⌝ }
     {
-        if self.pos < self.text.len() { Err(self.unexpected()) } else { Ok(()) }
+        if self.pos < self.text.len() {
+            Err(self.unexpected())
+        } else {
+            Ok(())
+        }
     }
 
     /// The byte that it stands before, or 0 at the end.
     fn byte(&self) -> u8
         ensures { λ r. ⌜ r ≡ first-byte (rest (now (self .entry))) ⌝ }
     {
-        if self.pos < self.text.len() { self.text[self.pos] } else { 0 }
+        if self.pos < self.text.len() {
+            self.text[self.pos]
+        } else {
+            0
+        }
     }
 
     /// The fault of what stands here.
     fn unexpected(&self) -> TextFault
         ensures { λ r. ⌜ r ≡ unexpected-at (now (self .entry)) ⌝ }
     {
-        TextFault::Unexpected { byte: self.byte(), place: self.place }
+        TextFault::Unexpected {
+            byte: self.byte(),
+            place: self.place,
+        }
     }
 }

@@ -20,7 +20,10 @@ impl<'a> Word<'a> {
     pub fn unexpected(self) -> TextFault
         ensures { λ r. ⌜ r ≡ Unexpected (self .entry .byte) (self .entry .place) ⌝ }
     {
-        TextFault::Unexpected { byte: self.byte, place: self.place }
+        TextFault::Unexpected {
+            byte: self.byte,
+            place: self.place,
+        }
     }
 }
 

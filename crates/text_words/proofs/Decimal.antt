@@ -70,12 +70,12 @@ pub number-says : (w : List ℕ) (n : ℕ) → number-of w ≡ Some n → Small 
 number-says w n e =
     ⊎-elim
     (λ h.
-      let r = digits-say 0 w n (sym (cond-true _ _ _ h) ∙ e) in
-      let some : 0 < length w = grind (arith, tells) in
-      let few : length w ≤ 5 = grind (arith, tells) in
-      let zero-alone : getD w 0 0 ≡ 48 → length w ≡ 1 = (λ z. grind (arith, tells)) in
-      let small : read-on 0 w < 10 ^ 5 = value-short own w 5 (r .0) few in
-      (omega (arith, r .1, small), sym (sym (ap decimal (r .1)) ∙ decimal-value own w (r .0) some zero-alone (omega arith))))
+    let r = digits-say 0 w n (sym (cond-true _ _ _ h) ∙ e) in
+    let some : 0 < length w = grind (arith, tells) in
+    let few : length w ≤ 5 = grind (arith, tells) in
+    let zero-alone : getD w 0 0 ≡ 48 → length w ≡ 1 = (λ z. grind (arith, tells)) in
+    let small : read-on 0 w < 10 ^ 5 = value-short own w 5 (r .0) few in
+    (omega (arith, r .1, small), sym (sym (ap decimal (r .1)) ∙ decimal-value own w (r .0) some zero-alone (omega arith))))
     (λ h. absurd (none-not-some n (sym (cond-false _ _ _ h) ∙ e)))
     (cases-bool (well-formed w))
 

@@ -44,6 +44,7 @@ bits-more w i v b r h e = record {
     byte-fits : (x : Bool) → ((leb 48 (bit-byte x) && leb (bit-byte x) 49) && all-bits (drop (i + 1) w)) ≡ all-bits (drop (i + 1) w)
     byte-fits true = refl
     byte-fits false = refl
+
     byte-counts : (x : Bool) → bits-value (2 * v + cond (eqb (bit-byte x) 49) 1 0) (bits-of (drop (i + 1) w)) ≡ bits-value (2 * v + cond x 1 0) (bits-of (drop (i + 1) w))
     byte-counts true = refl
     byte-counts false = refl
@@ -105,10 +106,10 @@ pub reads-index : (n : ℕ) (w : List ℕ) (r : Option ℕ) → r ≡ index-of n
 reads-index n w (Some i) e =
     ⊎-elim
     (λ h.
-      let p = and-parts (eqb (length w) n) (all-bits w) h in
-      let s : Some i ≡ Some (index-number (bits-of w)) = e ∙ cond-true _ _ _ h in
-      let q : i ≡ index-number (bits-of w) = cc in
-      (bits-of w, (bits-long w ∙ eqb-true _ _ (p .0), index-says w (p .1), q)))
+    let p = and-parts (eqb (length w) n) (all-bits w) h in
+    let s : Some i ≡ Some (index-number (bits-of w)) = e ∙ cond-true _ _ _ h in
+    let q : i ≡ index-number (bits-of w) = cc in
+    (bits-of w, (bits-long w ∙ eqb-true _ _ (p .0), index-says w (p .1), q)))
     (λ h. absurd (none-not-some i (sym (e ∙ cond-false _ _ _ h))))
     (cases-bool (is-index n w))
 reads-index n w None e = λ bits l d. none-not-some (index-number (bits-of w)) (e ∙ cond-true _ _ _ (ap (is-index n) d ∙ word-index n bits l))

@@ -7,4 +7,6 @@ pub use numbers::whole_number;
 pub use spelling::CountRange;
 pub use spelling::QuestionWord;
 pub use spelling::Section;
+pub use spelling::SectionEq;
+pub use spelling::SectionPartialEq;
 pub use spelling::StepWord;

@@ -9,7 +9,11 @@ pub fn whole_number(word: &[u8]) -> Option<u32>
     ensures equals { λ r. ⌜ r ≡ number-of (now (word .entry)) ⌝ }
     ensures reads { λ r. ⌜ Reads-number (now (word .entry)) r ⌝ }
 {
-    if well_formed(word) { digits(word) } else { None }
+    if well_formed(word) {
+        digits(word)
+    } else {
+        None
+    }
 }
 
 /// One to five bytes, of which the first is 0 only where it stands alone.

@@ -4,7 +4,7 @@ ghost use Rattle.text_words.specs.Spelling.{section-of, step-of, question-of, 
 use gates::Gate;
 
 /// A section of a circuit text, named by the word before its count.
-#[derive(Clone, Copy)]
+#[derive(Clone, Copy, PartialEq, Eq)]
 pub enum Section {
     Qubits,
     Opens,
@@ -54,10 +54,22 @@ impl Section {
         ensures { λ r. ⌜ r ≡ range-of self ⌝ }
     {
         match self {
-            Section::Qubits => CountRange { least: 1, greatest: 16 },
-            Section::Opens => CountRange { least: 0, greatest: 4 },
-            Section::Steps => CountRange { least: 0, greatest: 2000 },
-            Section::Reads => CountRange { least: 0, greatest: 100 },
+            Section::Qubits => CountRange {
+                least: 1,
+                greatest: 16,
+            },
+            Section::Opens => CountRange {
+                least: 0,
+                greatest: 4,
+            },
+            Section::Steps => CountRange {
+                least: 0,
+                greatest: 2000,
+            },
+            Section::Reads => CountRange {
+                least: 0,
+                greatest: 100,
+            },
         }
     }
 }

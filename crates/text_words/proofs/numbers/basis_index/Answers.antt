@@ -33,8 +33,8 @@ returns-in-rest c =
 pub loop-b-again : need.loop-b-again
 loop-b-again c =
     elim (c .match-b .came) [
-      in-48 w ↦ subst (Bits-read _ _) (let e : 2 * c .loop-b .value + 0 ≡ c .match-b .value = omega (arith, w .value-is) in e) (bits-more _ _ _ false (c .loop-b .inv) (c .loop-b-test .taken) (w .in-48 .is))
-    | in-49 w ↦ subst (Bits-read _ _) (let e : 2 * c .loop-b .value + 1 ≡ c .match-b .value = omega (arith, w .value-is) in e) (bits-more _ _ _ true (c .loop-b .inv) (c .loop-b-test .taken) (w .in-49 .is))
+      | in-48 w ↦ subst (Bits-read _ _) (let e : 2 * c .loop-b .value + 0 ≡ c .match-b .value = omega (arith, w .value-is) in e) (bits-more _ _ _ false (c .loop-b .inv) (c .loop-b-test .taken) (w .in-48 .is))
+      | in-49 w ↦ subst (Bits-read _ _) (let e : 2 * c .loop-b .value + 1 ≡ c .match-b .value = omega (arith, w .value-is) in e) (bits-more _ _ _ true (c .loop-b .inv) (c .loop-b-test .taken) (w .in-49 .is))
     ]
 
 pub returns : need.returns

@@ -33,9 +33,12 @@ unfolding rest
 returns-else-self c =
     let text = c .args .self .now .text .now in
     let pos = c .args .self .now .pos in
-    let at : getD text pos 0 ≡ getD (drop pos text) 0 0 = sym (getD-drop pos text 0 0 ∙ ap (λ i. getD text i 0) (add-zero pos)) in
-    (refl, c .unexpected .ensures, λ more e.
-      elim (c .else-self .came) [
-        else-self·by·then-self·else-self-byte w ↦ w .if-self-byte .left (at ∙ ap (λ l. getD l 0 0) e)
-      | else-self·by·else-self w ↦ omega (arith, w .if-self .left, length-drop pos text, ap length e)
-      ])
+    let at : getD text pos 0 ≡ getD (drop pos text) 0 0 = sym (getD-drop pos text 0 0 ∙ ap (λ i. getD text i 0) (add-zero pos)) in (
+      refl,
+      c .unexpected .ensures,
+      λ more e.
+          elim (c .else-self .came) [
+            | else-self·by·then-self·else-self-byte w ↦ w .if-self-byte .left (at ∙ ap (λ l. getD l 0 0) e)
+            | else-self·by·else-self w ↦ omega (arith, w .if-self .left, length-drop pos text, ap length e)
+          ],
+    )

@@ -41,9 +41,9 @@ returns c =
     let e = long (need.at·returns c .After-word-len-n) in
     let back : pos + n - pos ≡ n = omega arith in
     record {
-        same = refl;
-        bytes = ap (λ k. take k (drop pos text)) (back ∙ e) ∙ take-run word-byte (drop pos text);
-        left = sym (drop-drop n pos text) ∙ ap (λ k. drop k (drop pos text)) e ∙ drop-run word-byte (drop pos text);
-        byte = c .byte-byte .ensures;
-        place = stands-place (stands (c .args .self .now));
+      same = refl;
+      bytes = ap (λ k. take k (drop pos text)) (back ∙ e) ∙ take-run word-byte (drop pos text);
+      left = sym (drop-drop n pos text) ∙ ap (λ k. drop k (drop pos text)) e ∙ drop-run word-byte (drop pos text);
+      byte = c .byte-byte .ensures;
+      place = stands-place (stands (c .args .self .now));
     }

@@ -1,0 +1,4 @@
+mod Moves
+mod Words
+mod Exits
+mod Several
