@@ -1,0 +1,43 @@
+//! What the program is asked to do, and the text that it is given.
+use std::env;
+use std::error::AnyError;
+use std::fs::File;
+use std::io::Read;
+
+/// One byte more than a circuit text may have: enough to see that a text is too long.
+const MOST_BYTES: u64 = 16385;
+
+#[derive(Drop)]
+pub enum Request {
+    Help,
+    Version,
+    Check(Vec<u8>),
+}
+
+/// Reads the arguments and, where a text is to be checked, the text.
+pub fn asked(rt: &LibcRuntime) -> Result<Request, AnyError> {
+    let mut args = env::args(rt)?.skip(1);
+    let Some(first) = args.next() else {
+        return Ok(Request::Check(standard_input(rt)?));
+    };
+    if args.next().is_some() {
+        return Err("there is more than one argument; --help says how to use slicesim".into());
+    }
+    match first.as_str() {
+        "--help" | "-h" => Ok(Request::Help),
+        "--version" | "-V" => Ok(Request::Version),
+        path => Ok(Request::Check(file(rt, path)?)),
+    }
+}
+
+fn standard_input(rt: &LibcRuntime) -> Result<Vec<u8>, AnyError> {
+    let mut text = Vec::new(rt.alloc());
+    rt.stdin().take(MOST_BYTES).read_to_end(&mut text)?;
+    Ok(text)
+}
+
+fn file(rt: &LibcRuntime, path: &str) -> Result<Vec<u8>, AnyError> {
+    let mut text = Vec::new(rt.alloc());
+    File::open(rt, path)?.take(MOST_BYTES).read_to_end(&mut text)?;
+    Ok(text)
+}
