@@ -150,10 +150,18 @@ def verdict(data: bytes) -> Verdict:
             return Refusal(NOT_IN_THE_GRAMMAR, value, number, before + 1)
         if section is not None:
             counts[section] = count
-        if section in (b"opens", b"steps", b"reads"):
-            wanted = [(None, line_shapes(counts[b"qubits"])[section])] * count + wanted
+            if section != b"qubits":
+                wanted = [(None, line_shapes(counts[b"qubits"])[section])] * count + wanted
         start += len(line) + 1
     return Counts(*counts.values())
+
+
+def program_path(given=None):
+    """The absolute path of the program to be tested; ends the test if it is not there."""
+    path = Path(given or DEFAULT_PROGRAM).resolve()
+    if not path.is_file():
+        sys.exit(f"{path} is not there; build the program first")
+    return path
 
 
 def complaint(command, expected: Verdict | None, **streams) -> str | None:
