@@ -39,7 +39,7 @@ fn count(reader: &mut Reader, range: CountRange) -> Result<u32, TextFault>
 {
     let word = reader.word();
     match whole_number(word.bytes) {
-        Some(n) if range.least <= n && n <= range.greatest => Ok(n),
+        Some(n) if range.least <= n && n <= range.most => Ok(n),
         Some(n) => Err(TextFault::OutOfRange {
             count: n,
             place: word.place,

@@ -19,7 +19,7 @@ use Rattle.text_grammar.proofs.Phrases.{section-reads, opening-reads, step-rea
 
 -- ranges of at most five digits
 abbrev pub Writable : Ranges → Type 0
-Writable ranges = (s : Section) → Small (ranges s .greatest)
+Writable ranges = (s : Section) → Small (ranges s .most)
 
 pub ranges-writable : Writable range-of
 ranges-writable Qubits = omega arith

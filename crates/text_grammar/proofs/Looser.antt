@@ -137,12 +137,12 @@ let-through (word v next) q t n rest o o' l e =
         subst (Through (word (l .0) (l .1 .0)) t) (q' .1) (through-here (l .0) (l .1 .0) t m op g (d .0) (d .1))
 
 -- circuit text, and the same with any counts
-ranged-eased : (r : CountRange) (w : List ℕ) (o : Option ℕ) → number-of w ≡ o → Eased (ranged r o) (ranged (record { least = 0; greatest = 99999 }) o)
+ranged-eased : (r : CountRange) (w : List ℕ) (o : Option ℕ) → number-of w ≡ o → Eased (ranged r o) (ranged (record { least = 0; most = 99999 }) o)
 ranged-eased r w None h = refl
 ranged-eased r w (Some n) h =
     let s = number-says w n h .0 in
     let far : cond (leb 0 n && leb n 99999) fits (beyond n) ≡ fits = ap (λ q. cond q fits (beyond n)) (and-from _ _ (le-leb 0 n (omega arith)) (le-leb n 99999 (omega arith))) in
-    elim (leb (r .least) n && leb n (r .greatest)) as (λ q. Eased (cond q fits (beyond n)) (cond (leb 0 n && leb n 99999) fits (beyond n))) [ true ↦ far | false ↦ far ]
+    elim (leb (r .least) n && leb n (r .most)) as (λ q. Eased (cond q fits (beyond n)) (cond (leb 0 n && leb n 99999) fits (beyond n))) [ true ↦ far | false ↦ far ]
 
 fitting-eased : {A : Type 0} (o : Option A) → Eased (fitting o) (fitting o)
 fitting-eased (Some a) = refl

@@ -38,7 +38,7 @@ fitting-near None n e = let y : _≡_ {A = ℕ} 0 1 = cc in let z : ⊥ = omega 
 
 ranged-far : (r : CountRange) (w : List ℕ) (o : Option ℕ) (n : ℕ) → number-of w ≡ o → ranged r o ≡ beyond n → (w ≡ decimal n) × Small n
 ranged-far r w None n h e = absurd (let y : _≡_ {A = ℕ} 0 1 = cc in let z : ⊥ = omega arith in z)
-ranged-far r w (Some m) n h e = go (leb (r .least) m && leb m (r .greatest)) e
+ranged-far r w (Some m) n h e = go (leb (r .least) m && leb m (r .most)) e
   where
     go : (q : Bool) → cond q fits (beyond m) ≡ beyond n → (w ≡ decimal n) × Small n
     go true f = absurd (let y : _≡_ {A = ℕ} 0 1 = cc in let z : ⊥ = omega arith in z)

@@ -58,13 +58,13 @@ number-reads = word-reads _ _ decimal Small
 
 count-word : (r : CountRange) (w : List ℕ) (o : Option ℕ) → number-of w ≡ o → ranged r o ≡ fits → (w ≡ decimal (otherwise 0 o)) × Within r (otherwise 0 o)
 count-word r w None h e = absurd (wrong-not-fits e)
-count-word r w (Some n) h e = go (leb (r .least) n && leb n (r .greatest)) refl e
+count-word r w (Some n) h e = go (leb (r .least) n && leb n (r .most)) refl e
   where
-    go : (q : Bool) → (leb (r .least) n && leb n (r .greatest)) ≡ q → cond q fits (beyond n) ≡ fits → (w ≡ decimal n) × Within r n
+    go : (q : Bool) → (leb (r .least) n && leb n (r .most)) ≡ q → cond q fits (beyond n) ≡ fits → (w ≡ decimal n) × Within r n
     go false d f = absurd (beyond-not-fits n f)
-    go true d f = let p = and-parts (leb (r .least) n) (leb n (r .greatest)) d in (number-says w n h .1, (leb-true _ _ (p .0), leb-true _ _ (p .1)))
+    go true d f = let p = and-parts (leb (r .least) n) (leb n (r .most)) d in (number-says w n h .1, (leb-true _ _ (p .0), leb-true _ _ (p .1)))
 
-pub count-reads : (r : CountRange) → Small (r .greatest) → Faithful (count r) decimal (Within r) Delimited
+pub count-reads : (r : CountRange) → Small (r .most) → Faithful (count r) decimal (Within r) Delimited
 unfolding count
 count-reads r few = word-reads _ _ decimal (Within r)
     (λ w e. count-word r w (number-of w) refl e)
@@ -159,7 +159,7 @@ step-reads =
     (λ p f. f .1)
     (λ s g. (tt, g))
 
-pub section-reads : (r : CountRange) (s : Section) → Small (r .greatest) → Faithful (section r s) (section-line s) (Within r) Any
+pub section-reads : (r : CountRange) (s : Section) → Small (r .most) → Faithful (section r s) (section-line s) (Within r) Any
 unfolding section section-name section-line line-tail
 section-reads r s few =
     let body : Faithful (λ k. byte 32 (count r (λ n. byte 10 (k n)))) (λ n. (32 ∷ decimal n) ++ (10 ∷ [])) (Within r) Any = ended-reads 10 refl (before-reads 32 (count-reads r few)) in

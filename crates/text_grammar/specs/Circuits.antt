@@ -91,10 +91,10 @@ abbrev pub Ranges : Type 0
 Ranges = Section → CountRange
 
 abbrev pub any-count : Ranges
-any-count s = record { least = 0; greatest = 99999 }
+any-count s = record { least = 0; most = 99999 }
 
 abbrev pub Within : CountRange → ℕ → Type 0
-Within r n = (r .least ≤ n) × (n ≤ r .greatest)
+Within r n = (r .least ≤ n) × (n ≤ r .most)
 
 abbrev pub Fits-opening : ℕ → Opening → Type 0
 Fits-opening n o = Small (o .register) × (length (o .index) ≡ n)

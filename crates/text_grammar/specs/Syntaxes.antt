@@ -64,7 +64,7 @@ fitting (Some a) = fits
 fitting None = wrong
 
 abbrev pub ranged : CountRange → Option ℕ → Verdict
-ranged r (Some n) = cond (leb (r .least) n && leb n (r .greatest)) fits (beyond n)
+ranged r (Some n) = cond (leb (r .least) n && leb n (r .most)) fits (beyond n)
 ranged r None = wrong
 
 abbrev pub otherwise : {A : Type 0} → A → Option A → A

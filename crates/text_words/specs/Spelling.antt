@@ -54,10 +54,10 @@ numbers-of Close = 1
 
 -- the counts that a section may have
 abbrev pub range-of : Section → CountRange
-range-of Qubits = record { least = 1; greatest = 16 }
-range-of Opens = record { least = 0; greatest = 4 }
-range-of Steps = record { least = 0; greatest = 2000 }
-range-of Reads = record { least = 0; greatest = 100 }
+range-of Qubits = record { least = 1; most = 16 }
+range-of Opens = record { least = 0; most = 4 }
+range-of Steps = record { least = 0; most = 2000 }
+range-of Reads = record { least = 0; most = 100 }
 
 -- whether a word has exactly these bytes from its i-th on
 abbrev pub has : List ℕ → ℕ → List ℕ → Bool

@@ -12,11 +12,11 @@ pub enum Section {
     Reads,
 }
 
-/// The least and the greatest count that a section may have.
+/// The least and the most that a section may count.
 #[derive(Clone, Copy)]
 pub struct CountRange {
     pub least: u32,
-    pub greatest: u32,
+    pub most: u32,
 }
 
 /// The word that a step begins with.
@@ -56,19 +56,19 @@ impl Section {
         match self {
             Section::Qubits => CountRange {
                 least: 1,
-                greatest: 16,
+                most: 16,
             },
             Section::Opens => CountRange {
                 least: 0,
-                greatest: 4,
+                most: 4,
             },
             Section::Steps => CountRange {
                 least: 0,
-                greatest: 2000,
+                most: 2000,
             },
             Section::Reads => CountRange {
                 least: 0,
-                greatest: 100,
+                most: 100,
             },
         }
     }

@@ -12,18 +12,18 @@ use Rattle.circuit_text.proofs.phrases.count.Needs as need
 
 pub returns-in-Some : need.returns-in-Some
 unfolding syntax.count
-returns-in-Some c =
+returns-in-Some c = 
     let n = c .in-Some .n in
     let h = sym (c .in-Some .ensures tt .equals) in
-    let b : (leb (c .args .range .least) n && leb n (c .args .range .greatest)) ≡ true = grind (arith, tells) in
+    let b : (leb (c .args .range .least) n && leb n (c .args .range .most)) ≡ true = grind (arith, tells) in
     (_, ((refl, (search needs)), reached-word (c .word-word .ensures) _ _ _ (ap (ranged (c .args .range)) h ∙ cond-true _ _ _ b) (ap (otherwise 0) h)))
 
 pub returns-in-Some-2 : need.returns-in-Some-2
 unfolding syntax.count
-returns-in-Some-2 c =
+returns-in-Some-2 c = 
     let n = c .in-Some .n in
     let h = sym (c .in-Some .ensures tt .equals) in
-    let b : (leb (c .args .range .least) n && leb n (c .args .range .greatest)) ≡ false = grind (arith, tells) in
+    let b : (leb (c .args .range .least) n && leb n (c .args .range .most)) ≡ false = grind (arith, tells) in
     λ k. stuck-count (c .word-word .ensures) _ _ n (ap (ranged (c .args .range)) h ∙ cond-false _ _ _ b)
 
 pub returns-in-None : need.returns-in-None

@@ -8,7 +8,7 @@ use Rattle.circuit_text.proofs.phrases.index.Needs as need
 
 pub returns-in-Some : need.returns-in-Some
 unfolding syntax.index
-returns-in-Some c =
+returns-in-Some c = 
     let t = index-told _ _ _ (c .in-Some .ensures tt .equals) in
     (_, (t .1, reached-word (c .word-word .ensures) _ bits-of _ (ap when (t .0)) refl))
 
