@@ -1,31 +1,21 @@
--- The ways out of a function that reads a phrase.
-use mathlib.Core.Path.{_≡_, sym, ap, subst, _∙_}
+-- The ways out of reading a whole text.
+use mathlib.Core.Path.{_≡_, sym, ap, _∙_}
+use mathlib.Core.List.{List, []}
+use Prim.Native.Nat.{ℕ}
+use lib.ListN.{length}
 use Rattle.std.specs.Results.{ErrBy}
 use Rattle.std.specs.declared.result.Result.{Result}
 use Rattle.std.specs.declared.result.Result.the-variants.{Ok, Err}
-use Rattle.text_reader.specs.declared.reader.Reader.{Reader}
 use Rattle.text_reader.specs.declared.fault.TextFault.{TextFault}
-use Rattle.text_grammar.specs.Syntaxes.{Syntax, Reading}
+use Rattle.text_grammar.specs.Circuits.{Opening, Step, Question}
+use Rattle.text_grammar.specs.Syntaxes.{Reading}
 use Rattle.circuit_text.specs.declared.form.Form.{Form}
 use Rattle.circuit_text.specs.Forms.{form-read}
-use Rattle.circuit_text.specs.Reading.{onward, Reached, Follows}
-use Rattle.text_reader.specs.Reading.{text-of}
 
--- a fault on the way is handed on
-pub follows-stuck : {A U : Type 0} (phrase : (A → Syntax) → Syntax) (Means : U → A → Type 0) (s t : Reader) (r : Result U TextFault) (e : TextFault) → ErrBy r (λ y. y ≡ e) → ((k : A → Syntax) → onward (phrase k) s ≡ Err e) → Follows phrase Means s t r
-follows-stuck phrase Means s t (Ok u) e q h = absurd q
-follows-stuck phrase Means s t (Err y) e q h = λ k. h k ∙ ap Err (sym q)
-
--- the last part's answer is the whole's
-pub follows-then : {A U : Type 0} (phrase inner : (A → Syntax) → Syntax) (Means : U → A → Type 0) (s t u : Reader) (r : Result U TextFault) → text-of t ≡ text-of s → ((k : A → Syntax) → onward (phrase k) s ≡ onward (inner k) t) → Follows inner Means t u r → Follows phrase Means s u r
-follows-then phrase inner Means s t u (Ok a) e h f = (f .0, (f .1 .0, record { same = f .1 .1 .same ∙ e; goes = λ k. h k ∙ f .1 .1 .goes k }))
-follows-then phrase inner Means s t u (Err y) e h f = λ k. h k ∙ f k
-
--- an answer that is the phrase's value
-pub exact : {A : Type 0} (phrase : (A → Syntax) → Syntax) (s t : Reader) (u a : A) → u ≡ a → Reached phrase a s t → Reached phrase u s t
-exact phrase s t u a e r = subst (λ x. Reached phrase x s t) (sym e) r
-
--- a fault on the way is the form's
 pub form-stuck : (r : Result Form TextFault) (e : TextFault) (x : Result Reading TextFault) → ErrBy r (λ y. y ≡ e) → x ≡ Err e → r ≡ form-read x
 form-stuck (Ok a) e x q h = absurd q
 form-stuck (Err y) e x q h = ap Err q ∙ sym (ap form-read h)
+
+-- the counts that were read are those of the circuit
+pub form-all : (x : Result Reading TextFault) (n o m r : ℕ) (os : List Opening) (ss : List Step) (qs : List Question) → x ≡ Ok (record { qubits = n; opens = os; steps = ss; reads = qs }, []) → length os ≡ o → length ss ≡ m → length qs ≡ r → Ok (record { qubits = n; opens = o; steps = m; reads = r }) ≡ form-read x
+form-all x n o m r os ss qs e lo lm lr = sym (ap form-read e ∙ (λ i. Ok (record { qubits = n; opens = lo i; steps = lm i; reads = lr i })))

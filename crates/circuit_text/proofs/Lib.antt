@@ -1,4 +1,1 @@
-mod Moves
-mod Words
 mod Exits
-mod Several

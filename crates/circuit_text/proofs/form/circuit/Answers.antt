@@ -1,8 +1,9 @@
 use mathlib.Core.Path.{_≡_, sym, ap, _∙_}
 use Rattle.std.specs.declared.result.Result.the-variants.{Ok}
 use Rattle.circuit_text.specs.Forms.{form-read, form-of}
-use Rattle.circuit_text.proofs.Moves.{ended-on, ended-stuck}
-use Rattle.circuit_text.proofs.Exits.{form-stuck, exact}
+use Rattle.text_phrases.proofs.Moves.{ended-on, ended-stuck}
+use Rattle.text_phrases.proofs.Exits.{exact}
+use Rattle.circuit_text.proofs.Exits.{form-stuck, form-all}
 use Rattle.text_grammar.specs.Syntaxes as syntax
 use Rattle.circuit_text.proofs.form.circuit.Needs as need
 
@@ -84,10 +85,8 @@ returns-in-Break-end c =
 
 pub returns : need.returns
 unfolding syntax.circuit-within
-returns c = 
-    let lengths : Ok (form-of (record { qubits = c .in-Continue-qubits .qubits; opens = c .in-Continue-opening-lines .ensures tt .0; steps = c .in-Continue-step-lines .ensures tt .0; reads = c .in-Continue-question-lines .ensures tt .0 })) ≡ _ =
-          (λ i. Ok (record { qubits = c .in-Continue-qubits .qubits; opens = c .in-Continue-opening-lines .ensures tt .1 .0 i; steps = c .in-Continue-step-lines .ensures tt .1 .0 i; reads = c .in-Continue-question-lines .ensures tt .1 .0 i })) in
-    sym (ap form-read
+returns c =
+    form-all _ _ _ _ _ _ _ _
     (exact _ _ _ _ _ (c .in-Continue-qubits .ensures tt .1 .0 .0) (c .in-Continue-qubits .ensures tt .1 .1) .goes _
     ∙ exact _ _ _ _ _ (c .in-Continue-opens .ensures tt .1 .0 .0) (c .in-Continue-opens .ensures tt .1 .1) .goes _
     ∙ c .in-Continue-opening-lines .ensures tt .1 .1 .goes _
@@ -96,4 +95,6 @@ returns c =
     ∙ exact _ _ _ _ _ (c .in-Continue-reads .ensures tt .1 .0 .0) (c .in-Continue-reads .ensures tt .1 .1) .goes _
     ∙ c .in-Continue-question-lines .ensures tt .1 .1 .goes _
     ∙ ended-on _ _ (c .in-Continue-end .ensures tt))
-    ∙ lengths)
+    (c .in-Continue-opening-lines .ensures tt .1 .0)
+    (c .in-Continue-step-lines .ensures tt .1 .0)
+    (c .in-Continue-question-lines .ensures tt .1 .0)

@@ -1,0 +1,4 @@
+pub mod Moves
+mod Words
+pub mod Exits
+pub mod Several
