@@ -1,1 +1,5 @@
 mod Exits
+mod Heads
+mod Taken
+mod Contents
+mod Ahead

@@ -62,12 +62,6 @@ abbrev pub Is-step : Step → circuit.Step → Type 0
 Is-step u s = (u .name ≡ s .name) × Is-numbers (u .numbers) (s .numbers)
 
 abbrev pub Is-question : Question → circuit.Question → Type 0
-Is-question (Amp r i) (amp register bits) = (r ≡ register) × Is-index i bits
-Is-question (Amp r i) (weight register qubit outcome) = ⊥
-Is-question (Amp r i) (same first second) = ⊥
-Is-question (Weight r q b) (amp register bits) = ⊥
-Is-question (Weight r q b) (weight register qubit outcome) = (r ≡ register) × (q ≡ qubit) × (b ≡ outcome)
-Is-question (Weight r q b) (same first second) = ⊥
-Is-question (Same r q) (amp register bits) = ⊥
-Is-question (Same r q) (weight register qubit outcome) = ⊥
-Is-question (Same r q) (same first second) = (r ≡ first) × (q ≡ second)
+Is-question (Amp r i) q = (bits : List Bool) × ((q ≡ amp r bits) × Is-index i bits)
+Is-question (Weight r n b) q = q ≡ weight r n b
+Is-question (Same r n) q = q ≡ same r n

@@ -2,10 +2,10 @@
 use mathlib.Core.Path.{_≡_, refl, sym, ap, _∙_}
 use mathlib.Core.Bool.{Bool, true, false, cond, _&&_}
 use mathlib.Core.List.{List, [], _∷_, _++_}
-use Prim.Native.Nat.{ℕ, _+_, _≤_, _<_, suc}
+use Prim.Native.Nat.{ℕ, _+_, _-_, _≤_, _<_, suc}
 use native.Mathlib.Omega.{arith}
 use lib.ListN.{length, getD, take, drop}
-use Rattle.std.proofs.shelf.Lists.{at-drop-more, at-drop-all}
+use Rattle.std.proofs.shelf.Lists.{at-drop-more, at-drop-all, take-all}
 use Rattle.std.proofs.shelf.Tests.{cond-true, cond-false, and-parts, and-from}
 use Rattle.text_reader.specs.Tokens.{run-of, past-run}
 
@@ -36,6 +36,12 @@ module _ (kind : ℕ → Bool) where
   unfolding run-of
   take-run [] = refl
   take-run (b ∷ bs) = elim (kind b) as (λ p. take (length (cond p (b ∷ run-of kind bs) [])) (b ∷ bs) ≡ cond p (b ∷ run-of kind bs) []) [ true ↦ ap (λ l. b ∷ l) (take-run bs) | false ↦ refl ]
+
+  pub run-cut : (t : List ℕ) (n : ℕ) → length (run-of kind t) ≡ n → take (n - 0) t ≡ run-of kind t
+  run-cut t n e = let z : n - 0 ≡ length (run-of kind t) = omega (arith, e) in ap (λ k. take k t) z ∙ take-run t
+
+  pub run-full : (t : List ℕ) → length t ≤ length (run-of kind t) → t ≡ run-of kind t
+  run-full t h = sym (take-all (length (run-of kind t)) t h) ∙ take-run t
 
   pub drop-run : (t : List ℕ) → drop (length (run-of kind t)) t ≡ past-run kind t
   unfolding run-of past-run
@@ -81,3 +87,7 @@ module _ (kind : ℕ → Bool) where
   past-whole [] [] a d = refl
   past-whole [] (b ∷ bs) a d = cond-false _ _ _ d
   past-whole (b ∷ w) more a d = let q = and-parts (kind b) (all-of kind w) a in cond-true _ _ _ (q .0) ∙ past-whole w more (q .1) d
+
+  pub all-append : (xs ys : List ℕ) → all-of kind xs ≡ true → all-of kind ys ≡ true → all-of kind (xs ++ ys) ≡ true
+  all-append [] ys a b = b
+  all-append (x ∷ xs) ys a b = let q = and-parts (kind x) (all-of kind xs) a in and-from _ _ (q .0) (all-append xs ys (q .1) b)

@@ -52,6 +52,17 @@ unfolding moved-by
 column-bound [] p h = omega arith
 column-bound (b ∷ bs) p h = elim (eqb b 10) as (λ x. moved-by bs (cond x (record { line = p .line + 1; column = 1 }) (record { line = p .line; column = p .column + 1 })) .column ≤ p .column + suc (length bs)) [ true ↦ omega (arith, column-bound bs (record { line = p .line + 1; column = 1 }) (omega arith)) | false ↦ omega (arith, column-bound bs (record { line = p .line; column = p .column + 1 }) (omega arith)) ]
 
+-- lines are counted up
+pub line-least : (bs : List ℕ) (p : Place) → p .line ≤ moved-by bs p .line
+unfolding moved-by
+line-least [] p = omega arith
+line-least (b ∷ bs) p = elim (eqb b 10) as (λ x. p .line ≤ moved-by bs (cond x (record { line = p .line + 1; column = 1 }) (record { line = p .line; column = p .column + 1 })) .line) [ true ↦ omega (arith, line-least bs (record { line = p .line + 1; column = 1 })) | false ↦ omega (arith, line-least bs (record { line = p .line; column = p .column + 1 })) ]
+
+-- bytes of a line and its end lead to the next
+pub line-passed : (body : List ℕ) (p : Place) → all-of line-byte body ≡ true → moved-by (body ++ (10 ∷ [])) p .line ≡ p .line + 1
+unfolding moved-by
+line-passed body p a = ap (λ (q : Place). q .line) (moved-append body (10 ∷ []) p ∙ ap (moved 10) (moved-on-line body p a))
+
 -- a reader's place, as its ghost fields say it
 pub record Stands (text : List ℕ) (pos : ℕ) (place : Place) : Type 0 where
   pub sized : length text < 2 ^ 63

@@ -1,20 +1,23 @@
 //! How a reader moves on.
 ghost use mathlib.Core.Path.{_≡_};
+ghost use mathlib.Core.List.{[]};
 ghost use lib.ListN.{length, take, drop, getD};
-ghost use Rattle.text_reader.specs.Tokens.{first-line};
+ghost use Rattle.text_reader.specs.Tokens.{first-word, first-line};
+ghost use Rattle.text_reader.specs.Places.{place-after};
 ghost use Rattle.text_reader.specs.Reading.{text-of, rest, standing, first-byte, unexpected-at, Lent, Passed, Ended};
 use crate::fault::TextFault;
 use crate::place::Place;
 use crate::reader::Reader;
 use crate::word::Word;
-use crate::word::line_len;
-use crate::word::word_len;
+use crate::word::first_line;
+use crate::word::first_word;
 
 impl<'a> Reader<'a> {
     /// Stands at the start of the text.
     pub fn new(text: &'a [u8]) -> Reader<'a>
         ensures same { λ r. ⌜ text-of r ≡ now (text .entry) ⌝ }
         ensures whole { λ r. ⌜ rest r ≡ now (text .entry) ⌝ }
+        ensures start { λ r. ⌜ standing r ≡ place-after [] ⌝ }
     {
         Reader {
             text,
@@ -30,32 +33,30 @@ impl<'a> Reader<'a> {
         self.place
     }
 
+    /// Lends the word that stands here, and stays.
+    pub fn peek(&self) -> &'a [u8]
+        ensures { λ r. ⌜ now r ≡ first-word (rest (now (self .entry))) ⌝ }
+    {
+        first_word(self.left())
+    }
+
     /// Lends the word that stands here, and stands after it.
     pub fn word(&mut self) -> Word<'a>
         ensures { λ r. ⌜ Lent (now (self .entry)) (now (self .exit)) r ⌝ }
     {
-        let text: &'a [u8] = self.text;
-        let place = self.place;
+        let bytes = self.peek();
         let byte = self.byte();
-        let from = self.pos;
-        let n = word_len(&text[from..]);
-        self.place.column += n;
-        self.pos = from + n;
-        Word {
-            bytes: &text[from..from + n],
-            byte,
-            place,
-        }
+        let place = self.place;
+        self.place.column += bytes.len();
+        self.pos += bytes.len();
+        Word { bytes, byte, place }
     }
 
     /// Lends what is left of the line, without its end, and stays.
     pub fn line(&self) -> &'a [u8]
         ensures { λ r. ⌜ now r ≡ first-line (rest (now (self .entry))) ⌝ }
     {
-        let text: &'a [u8] = self.text;
-        let from = self.pos;
-        let n = line_len(&text[from..]);
-        &text[from..from + n]
+        first_line(self.left())
     }
 
     /// Passes this byte, or stays where it does not stand here.
@@ -80,6 +81,14 @@ impl<'a> Reader<'a> {
         } else {
             Ok(())
         }
+    }
+
+    /// What is left of the text.
+    fn left(&self) -> &'a [u8]
+        ensures { λ r. ⌜ now r ≡ rest (now (self .entry)) ⌝ }
+    {
+        let text: &'a [u8] = self.text;
+        &text[self.pos..]
     }
 
     /// The byte that it stands before, or 0 at the end.

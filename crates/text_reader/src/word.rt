@@ -1,6 +1,5 @@
 //! A word of a text.
 ghost use mathlib.Core.Path.{_≡_};
-ghost use lib.ListN.{length};
 ghost use Rattle.text_reader.specs.Tokens.{first-word, first-line};
 ghost use Rattle.text_reader.specs.declared.fault.TextFault.the-variants.{Unexpected};
 use crate::fault::TextFault;
@@ -27,26 +26,26 @@ impl<'a> Word<'a> {
     }
 }
 
-/// How many bytes stand before the first space or line end.
-pub(crate) fn word_len(text: &[u8]) -> usize
-    ensures { λ r. ⌜ r ≡ length (first-word (now (text .entry))) ⌝ }
+/// What stands before the first space or line end.
+pub(crate) fn first_word(text: &[u8]) -> &[u8]
+    ensures { λ r. ⌜ now r ≡ first-word (now (text .entry)) ⌝ }
 {
     for (i, b) in text.iter().enumerate() {
         if *b == b'\n' || *b == b' ' {
-            return i;
+            return &text[0..i];
         }
     }
-    text.len()
+    text
 }
 
-/// How many bytes stand before the first line end.
-pub(crate) fn line_len(text: &[u8]) -> usize
-    ensures { λ r. ⌜ r ≡ length (first-line (now (text .entry))) ⌝ }
+/// What stands before the first line end.
+pub(crate) fn first_line(text: &[u8]) -> &[u8]
+    ensures { λ r. ⌜ now r ≡ first-line (now (text .entry)) ⌝ }
 {
     for (i, b) in text.iter().enumerate() {
         if *b == b'\n' {
-            return i;
+            return &text[0..i];
         }
     }
-    text.len()
+    text
 }

@@ -1,4 +1,4 @@
-use mathlib.Core.Path.{_∙_}
+use mathlib.Core.Path.{sym, _∙_}
 use Rattle.text_grammar.specs.Circuits.Question.{same}
 use Rattle.text_phrases.proofs.Moves.{passed-on, passed-stuck}
 use Rattle.text_phrases.proofs.Exits.{follows-stuck}
@@ -20,7 +20,7 @@ returns-in-Break-expect c = follows-stuck _ _ _ _ _ _ (c .from-residual-in-Break
 pub returns : need.returns
 unfolding syntax.same-tail
 returns c = 
-    (same (c .in-Continue-first .ensures tt .0) (c .in-Continue-second .ensures tt .0), ((c .in-Continue-first .ensures tt .1 .0, c .in-Continue-second .ensures tt .1 .0), record {
+    (same (c .in-Continue-first .ensures tt .0) (c .in-Continue-second .ensures tt .0), ((λ i. same (sym (c .in-Continue-first .ensures tt .1 .0) i) (sym (c .in-Continue-second .ensures tt .1 .0) i)), record {
       same = c .in-Continue-expect .ensures tt .0 ∙ c .in-Continue-second .ensures tt .1 .1 .same ∙ c .in-Continue-first .ensures tt .1 .1 .same;
       goes = λ k. c .in-Continue-first .ensures tt .1 .1 .goes _ ∙ c .in-Continue-second .ensures tt .1 .1 .goes _ ∙ passed-on 10 _ _ (c .in-Continue-expect .ensures tt) _;
     }))

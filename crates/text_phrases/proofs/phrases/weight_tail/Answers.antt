@@ -1,4 +1,4 @@
-use mathlib.Core.Path.{_∙_}
+use mathlib.Core.Path.{sym, _∙_}
 use Rattle.text_grammar.specs.Circuits.Question.{weight}
 use Rattle.text_phrases.proofs.Moves.{passed-on, passed-stuck}
 use Rattle.text_phrases.proofs.Exits.{follows-stuck}
@@ -28,7 +28,7 @@ returns-in-Break-expect-2 c = follows-stuck _ _ _ _ _ _ (c .from-residual-in-Bre
 pub returns : need.returns
 unfolding syntax.weight-tail
 returns c = 
-    (weight (c .in-Continue-register .ensures tt .0) (c .in-Continue-qubit .ensures tt .0) (c .in-Continue-outcome .ensures tt .0), ((c .in-Continue-register .ensures tt .1 .0, c .in-Continue-qubit .ensures tt .1 .0, c .in-Continue-outcome .ensures tt .1 .0), record {
+    (weight (c .in-Continue-register .ensures tt .0) (c .in-Continue-qubit .ensures tt .0) (c .in-Continue-outcome .ensures tt .0), ((λ i. weight (sym (c .in-Continue-register .ensures tt .1 .0) i) (sym (c .in-Continue-qubit .ensures tt .1 .0) i) (sym (c .in-Continue-outcome .ensures tt .1 .0) i)), record {
       same = c .in-Continue-expect-2 .ensures tt .0 ∙ c .in-Continue-outcome .ensures tt .1 .1 .same ∙ c .in-Continue-expect .ensures tt .0 ∙ c .in-Continue-qubit .ensures tt .1 .1 .same ∙ c .in-Continue-register .ensures tt .1 .1 .same;
       goes = λ k. c .in-Continue-register .ensures tt .1 .1 .goes _ ∙ c .in-Continue-qubit .ensures tt .1 .1 .goes _ ∙ passed-on 32 _ _ (c .in-Continue-expect .ensures tt) _ ∙ c .in-Continue-outcome .ensures tt .1 .1 .goes _ ∙ passed-on 10 _ _ (c .in-Continue-expect-2 .ensures tt) _;
     }))

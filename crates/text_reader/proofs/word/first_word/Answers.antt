@@ -1,11 +1,11 @@
 use mathlib.Core.Path.{_≡_}
 use mathlib.Core.Bool.{true, false}
 use native.Mathlib.Omega.{arith}
-use lib.ListN.{getD}
+use lib.ListN.{length, getD}
 use Rattle.std.proofs.shelf.Ways.{tells}
-use Rattle.text_reader.specs.Tokens.{word-byte}
-use Rattle.text_reader.proofs.Runs.{run-more, run-stop, run-end}
-use Rattle.text_reader.proofs.word.word_len.Needs as need
+use Rattle.text_reader.specs.Tokens.{word-byte, first-word}
+use Rattle.text_reader.proofs.Runs.{run-more, run-stop, run-end, run-cut, run-full}
+use Rattle.text_reader.proofs.word.first_word.Needs as need
 
 pub loop-i-holds : need.loop-i-holds
 loop-i-holds c = omega arith
@@ -13,7 +13,7 @@ loop-i-holds c = omega arith
 pub returns-then-b-eq10 : need.returns-then-b-eq10
 returns-then-b-eq10 c =
     let d : word-byte (getD (c .args .text .now) (c .loop-i .i) 0) ≡ false = grind (arith, tells) in
-    omega (arith, run-stop word-byte _ _ (c .loop-i-test .taken) d)
+    run-cut word-byte _ _ (omega (arith, run-stop word-byte _ _ (c .loop-i-test .taken) d))
 
 pub loop-i-again : need.loop-i-again
 loop-i-again c =
@@ -21,4 +21,4 @@ loop-i-again c =
     omega (arith, run-more word-byte _ _ (c .loop-i-test .taken) d)
 
 pub returns : need.returns
-returns c = omega (arith, run-end word-byte (c .args .text .now) (c .loop-i .i) (omega arith))
+returns c = run-full word-byte (c .args .text .now) (omega (arith, run-end word-byte (c .args .text .now) (c .loop-i .i) (omega arith)))
