@@ -3,3 +3,4 @@ mod Heads
 mod Taken
 mod Contents
 mod Ahead
+mod Spaces
