@@ -24,7 +24,7 @@ use Rattle.text_reader.proofs.Runs.{all-of, all-append, run-whole}
 use Rattle.text_reader.proofs.Spots.{word-on-line, line-passed}
 use Rattle.text_reader.proofs.Standing.{standing-moved, standing-line}
 use Rattle.text_words.specs.declared.spelling.Section.the-variants.{Qubits, Opens, Steps, Reads}
-use Rattle.text_words.specs.Numbers.{Small, bit-byte, index-word}
+use Rattle.text_numbers.specs.Numbers.{Small, bit-byte, index-word}
 use Rattle.text_words.specs.declared.spelling.QuestionWord.the-variants.{Amp, Weight, Same}
 use Rattle.text_words.specs.Spelling.{range-of, section-word, step-word, question-word}
 use Rattle.text_grammar.specs.Circuits.{Circuit, Line, In-range, Within, line-tail, line-bytes, section-line, opening-line, step-line, question-line, lines-of, written, Fits-question}
@@ -92,12 +92,17 @@ all-kind n kind P f (x ∷ xs) a = (f x (a .0), all-kind n kind P f xs (a .1))
 
 lines-fit : (c : Circuit) → In-range c → All (Fits-line (c .qubits)) (lines-of c)
 unfolding lines-of Fits-line
-lines-fit c g =
-    (g .qubits-within, (g .opens-within,
-    all-append-lists _ (map opening (c .opens)) _ (all-kind (c .qubits) opening _ (λ o f. f) (c .opens) (g .opens-fit))
-    (g .steps-within,
-    all-append-lists _ (map step (c .steps)) _ (all-kind (c .qubits) step _ (λ s f. f) (c .steps) (g .steps-fit))
-    (g .reads-within, all-kind (c .qubits) question _ (λ q f. f) (c .reads) (g .reads-fit)))))
+lines-fit c g = (
+  g .qubits-within,
+  (
+    g .opens-within,
+    all-append-lists _ (map opening (c .opens)) _ (all-kind (c .qubits) opening _ (λ o f. f) (c .opens) (g .opens-fit)) (
+      g .steps-within,
+      all-append-lists _ (map step (c .steps)) _ (all-kind (c .qubits) step _ (λ s f. f) (c .steps) (g .steps-fit))
+          (g .reads-within, all-kind (c .qubits) question _ (λ q f. f) (c .reads) (g .reads-fit)),
+    ),
+  ),
+)
 
 all-drop : {A : Type 0} (P : A → Type 0) (i : ℕ) (xs : List A) → All P xs → All P (drop i xs)
 all-drop P zero xs a = a
@@ -148,7 +153,7 @@ pub line-lent : (n : ℕ) (x : Line) (more : List ℕ) → Fits-line n x → lin
 line-lent n x more f =
     let b = line-body n x f in
     let lent : first-line (line-bytes x ++ more) ≡ b .body =
-          ap (λ l. first-line (l ++ more)) (b .ended) ∙ ap first-line (append-assoc (b .body) (10 ∷ []) more) ∙ run-whole line-byte (b .body) (10 ∷ more) (b .on-line) refl in
+    ap (λ l. first-line (l ++ more)) (b .ended) ∙ ap first-line (append-assoc (b .body) (10 ∷ []) more) ∙ run-whole line-byte (b .body) (10 ∷ more) (b .on-line) refl in
     b .ended ∙ ap (λ l. l ++ (10 ∷ [])) (sym lent)
 
 not-empty : (n : ℕ) (x : Line) (more : List ℕ) → Fits-line n x → line-bytes x ++ more ≡ [] → ⊥

@@ -83,33 +83,65 @@ told-question a b e = let l : a ∷ [] ≡ b ∷ [] = ap (λ (c : Circuit). c .r
 unfoldable pub sections : (n : ℕ) (named : Section) → Kindred n (SectionKind named) ℕ ℕ
 unfolding line-bytes Fits-line
 sections n named = record {
-  phrase = _; spell = _; Fine = _; faithful = section-reads (range-of named) named (ranges-writable named);
-  Means = Counts (range-of named); line = section named; line-is = section-line-is named; bytes = λ a. refl; fine = λ a f. f;
-  just = with-count; told = told-count;
+  phrase = _;
+  spell = _;
+  Fine = _;
+  faithful = section-reads (range-of named) named (ranges-writable named);
+  Means = Counts (range-of named);
+  line = section named;
+  line-is = section-line-is named;
+  bytes = λ a. refl;
+  fine = λ a f. f;
+  just = with-count;
+  told = told-count;
 }
 
 unfoldable pub openings : (n : ℕ) → Kindred n OpeningKind circuit.Opening Opening
 unfolding line-bytes Fits-line
 openings n = record {
-  phrase = _; spell = _; Fine = _; faithful = opening-reads n;
-  Means = Is-opening; line = opening; line-is = opening-line-is; bytes = λ a. refl; fine = λ a f. f;
-  just = with-opening; told = told-opening;
+  phrase = _;
+  spell = _;
+  Fine = _;
+  faithful = opening-reads n;
+  Means = Is-opening;
+  line = opening;
+  line-is = opening-line-is;
+  bytes = λ a. refl;
+  fine = λ a f. f;
+  just = with-opening;
+  told = told-opening;
 }
 
 unfoldable pub steps : (n : ℕ) → Kindred n StepKind circuit.Step Step
 unfolding line-bytes Fits-line
 steps n = record {
-  phrase = _; spell = _; Fine = _; faithful = step-reads;
-  Means = Is-step; line = step; line-is = step-line-is; bytes = λ a. refl; fine = λ a f. f;
-  just = with-step; told = told-step;
+  phrase = _;
+  spell = _;
+  Fine = _;
+  faithful = step-reads;
+  Means = Is-step;
+  line = step;
+  line-is = step-line-is;
+  bytes = λ a. refl;
+  fine = λ a f. f;
+  just = with-step;
+  told = told-step;
 }
 
 unfoldable pub questions : (n : ℕ) → Kindred n QuestionKind circuit.Question Question
 unfolding line-bytes Fits-line
 questions n = record {
-  phrase = _; spell = _; Fine = _; faithful = question-reads n;
-  Means = Is-question; line = question; line-is = question-line-is; bytes = λ a. refl; fine = λ a f. f;
-  just = with-question; told = told-question;
+  phrase = _;
+  spell = _;
+  Fine = _;
+  faithful = question-reads n;
+  Means = Is-question;
+  line = question;
+  line-is = question-line-is;
+  bytes = λ a. refl;
+  fine = λ a f. f;
+  just = with-question;
+  told = told-question;
 }
 
 -- what was read of each is its content

@@ -20,8 +20,8 @@ use Rattle.text_words.specs.declared.spelling.StepWord.{StepWord}
 use Rattle.text_words.specs.declared.spelling.StepWord.the-variants.{Gate, Copy, Close}
 use Rattle.text_words.specs.declared.spelling.QuestionWord.the-variants.{Amp, Weight, Same}
 use Rattle.text_words.specs.Spelling.{section-word, step-word, question-word, sections, steps, questions, has, named}
-use Rattle.text_words.specs.Numbers.{Small, digit}
-use Rattle.text_words.proofs.Decimal.{all-digits, decimal-digits}
+use Rattle.text_numbers.specs.Numbers.{Small, digit}
+use Rattle.text_numbers.proofs.Decimal.{all-digits, decimal-digits}
 use Rattle.text_grammar.specs.Circuits.{Line, line-tail, line-bytes, section-line, opening-line, step-line, question-line, Fits-question}
 use Rattle.text_grammar.specs.Circuits.Question.{amp, weight, same}
 use Rattle.text_grammar.specs.Circuits.Line.{section, opening, step, question}
@@ -80,8 +80,8 @@ no-name spelling (a ∷ names) b bs d h = cond-false _ _ _ (other (spelling a) (
 digit-kind : (b : ℕ) (bs : List ℕ) → digit b ≡ true → kind-of (b ∷ bs) ≡ OpeningKind
 digit-kind b bs d =
     (λ i. by-section (no-name section-word sections b bs d (lit≤ tt, (lit≤ tt, (lit≤ tt, (lit≤ tt, tt)))) i)
-      (by-step (no-name step-word steps b bs d (lit≤ tt, (lit≤ tt, (lit≤ tt, (lit≤ tt, (lit≤ tt, (lit≤ tt, (lit≤ tt, (lit≤ tt, (lit≤ tt, (lit≤ tt, (lit≤ tt, (lit≤ tt, tt)))))))))))) i)
-        (by-question (no-name question-word questions b bs d (lit≤ tt, (lit≤ tt, (lit≤ tt, tt))) i))))
+    (by-step (no-name step-word steps b bs d (lit≤ tt, (lit≤ tt, (lit≤ tt, (lit≤ tt, (lit≤ tt, (lit≤ tt, (lit≤ tt, (lit≤ tt, (lit≤ tt, (lit≤ tt, (lit≤ tt, (lit≤ tt, tt)))))))))))) i)
+    (by-question (no-name question-word questions b bs d (lit≤ tt, (lit≤ tt, (lit≤ tt, tt))) i))))
 
 number-kind : (w : List ℕ) → 0 < length w → all-digits w ≡ true → kind-of w ≡ OpeningKind
 number-kind [] l h = absurd (let b : ⊥ = omega arith in b)

@@ -39,7 +39,10 @@ pub(crate) fn content(reader: &mut Reader, qubits: u32) -> Content
 {
     match kind(reader.peek()) {
         Kind::Section(named) => match section(reader, named) {
-            Ok(count) => Content::Section { section: named, count },
+            Ok(count) => Content::Section {
+                section: named,
+                count,
+            },
             Err(_) => unreachable(),
         },
         Kind::Step => match step(reader) {

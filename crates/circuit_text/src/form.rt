@@ -4,11 +4,11 @@ ghost use Prim.Native.Nat.{_≤_};
 ghost use Rattle.text_grammar.specs.Syntaxes as syntax;
 ghost use Rattle.text_phrases.specs.Reading.{Follows, Many, onward};
 ghost use Rattle.circuit_text.specs.Forms.{form-read, checked, Form-verdict};
-use text_reader::Reader;
 use text_phrases::opening;
 use text_phrases::question;
 use text_phrases::section;
 use text_phrases::step;
+use text_reader::Reader;
 use text_reader::TextFault;
 use text_words::Section;
 

@@ -2,10 +2,10 @@
 ghost use mathlib.Core.Path.{_≡_};
 ghost use Prim.Native.Nat.{_+_};
 ghost use Rattle.circuit_text.specs.Columns.{after-spaces};
-use text_reader::Place;
 use text_phrases::Opening;
 use text_phrases::Question;
 use text_phrases::Step;
+use text_reader::Place;
 use text_words::Section;
 
 /// What a line says.
@@ -30,7 +30,10 @@ impl<'a> Line<'a> {
     pub fn place(&self, nth: usize) -> Place
         ensures { λ r. ⌜ r ≡ record { line = now (self .entry) .number; column = 1 + after-spaces nth (now (self .entry) .bytes .now) } ⌝ }
     {
-        Place { line: self.number, column: 1 + offset(self.bytes, nth) }
+        Place {
+            line: self.number,
+            column: 1 + offset(self.bytes, nth),
+        }
     }
 }
 

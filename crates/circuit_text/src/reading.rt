@@ -33,7 +33,10 @@ impl CircuitText {
     pub fn lines(&self) -> Lines<'_>
         ensures { λ r. ⌜ All-to-come (vec-items (now (self .entry) .bytes)) r ⌝ }
     {
-        Lines { reader: Reader::new(&self.bytes), form: self.form }
+        Lines {
+            reader: Reader::new(&self.bytes),
+            form: self.form,
+        }
     }
 }
 
@@ -48,6 +51,10 @@ impl<'a> Lines<'a> {
         let number = self.reader.place().line;
         let bytes = self.reader.line();
         let content = content(&mut self.reader, self.form.qubits);
-        Some(Line { number, bytes, content })
+        Some(Line {
+            number,
+            bytes,
+            content,
+        })
     }
 }

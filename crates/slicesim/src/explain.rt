@@ -11,11 +11,17 @@ pub fn refuse(rt: &LibcRuntime, fault: TextFault) -> io::Result<()> {
     match fault {
         TextFault::TooLong { .. } => eprintln!(rt, "The text has more than 16384 bytes."),
         TextFault::Unexpected { byte, .. } => {
-            eprint!(rt, "Line {line}, column {column}: no circuit text goes on with ")?;
+            eprint!(
+                rt,
+                "Line {line}, column {column}: no circuit text goes on with "
+            )?;
             describe(rt, byte)
         }
         TextFault::OutOfRange { count, .. } => {
-            eprintln!(rt, "Line {line}, column {column}: the count {count} is out of its section's range.")
+            eprintln!(
+                rt,
+                "Line {line}, column {column}: the count {count} is out of its section's range."
+            )
         }
     }
 }

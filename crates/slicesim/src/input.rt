@@ -38,6 +38,8 @@ fn standard_input(rt: &LibcRuntime) -> Result<Vec<u8>, AnyError> {
 
 fn file(rt: &LibcRuntime, path: &str) -> Result<Vec<u8>, AnyError> {
     let mut text = Vec::new(rt.alloc());
-    File::open(rt, path)?.take(MOST_BYTES).read_to_end(&mut text)?;
+    File::open(rt, path)?
+        .take(MOST_BYTES)
+        .read_to_end(&mut text)?;
     Ok(text)
 }

@@ -49,7 +49,12 @@ fn run(rt: &LibcRuntime) -> Result<bool, AnyError> {
 fn answer(rt: &LibcRuntime, checked: Result<Form, TextFault>) -> Result<bool, AnyError> {
     match checked {
         Ok(form) => {
-            let Form { qubits, opens, steps, reads } = form;
+            let Form {
+                qubits,
+                opens,
+                steps,
+                reads,
+            } = form;
             println!(rt, "qubits {qubits}")?;
             println!(rt, "form opens {opens} steps {steps} reads {reads}")?;
             Ok(true)

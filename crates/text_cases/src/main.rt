@@ -21,8 +21,18 @@ fn case(rt: &LibcRuntime, name: &str) -> Result<(), AnyError> {
     let path = format!(rt.alloc(), "{name}.in")?;
     let text = fs::read(rt, path.as_str())?;
     match check_form(&text) {
-        Ok(Form { qubits, opens, steps, reads }) => {
-            println!(rt, "{name}: qubits {qubits} opens {opens} steps {steps} reads {reads}")?;
+        Ok(
+            Form {
+                qubits,
+                opens,
+                steps,
+                reads,
+            },
+        ) => {
+            println!(
+                rt,
+                "{name}: qubits {qubits} opens {opens} steps {steps} reads {reads}"
+            )?;
         }
         Err(fault) => {
             let number = fault.number();

@@ -9,7 +9,7 @@ use Rattle.std.specs.declared.result.Result.the-variants.{Ok}
 use Rattle.text_words.specs.declared.spelling.Section.{Section}
 use Rattle.text_words.specs.declared.spelling.Section.the-variants.{Qubits, Opens, Steps, Reads}
 use Rattle.text_words.specs.Spelling.{range-of}
-use Rattle.text_words.specs.Numbers.{Small}
+use Rattle.text_numbers.specs.Numbers.{Small}
 use Rattle.text_grammar.specs.Circuits.{Circuit, Opening, Step, Question, Line, Ranges, any-count, In-ranges, section-line, opening-line, step-line, question-line, line-bytes, lines-of, written}
 use Rattle.text_grammar.specs.Circuits.Line.{section as the-section, opening as the-opening, step as the-step, question as the-question}
 use Rattle.text_grammar.specs.Syntaxes.{Reading, read, circuit-within}

@@ -15,7 +15,7 @@ use Rattle.std.specs.declared.result.Result.{Result}
 use Rattle.std.specs.declared.result.Result.the-variants.{Ok, Err}
 use Rattle.text_reader.specs.Tokens.{word-byte, run-of, first-word, past-word, token}
 use Rattle.text_reader.proofs.Runs.{run-whole, split-run, run-all, past-ends}
-use Rattle.text_words.specs.Numbers.{Small}
+use Rattle.text_numbers.specs.Numbers.{Small}
 use Rattle.text_grammar.specs.Syntaxes.{Syntax, Verdict, Stop, Reading, read, judged}
 use Rattle.text_grammar.specs.Syntaxes.Syntax.{done, finish, byte, word}
 use Rattle.text_grammar.specs.Syntaxes.Verdict.{fits, wrong, beyond}

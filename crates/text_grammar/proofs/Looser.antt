@@ -19,8 +19,8 @@ use Rattle.text_words.specs.declared.spelling.CountRange.{CountRange}
 use Rattle.text_words.specs.declared.spelling.QuestionWord.{QuestionWord}
 use Rattle.text_words.specs.declared.spelling.QuestionWord.the-variants.{Amp, Weight, Same}
 use Rattle.text_words.specs.Spelling.{step-of, question-of, range-of}
-use Rattle.text_words.specs.Numbers.{Small, number-of}
-use Rattle.text_words.proofs.Decimal.{number-says}
+use Rattle.text_numbers.specs.Numbers.{Small, number-of}
+use Rattle.text_numbers.proofs.Decimal.{number-says}
 use Rattle.text_grammar.specs.Circuits.{Opening, Step, Question, any-count}
 use Rattle.text_grammar.specs.Syntaxes.{Syntax, Verdict, Reading, read, judged, fitting, when, ranged, number, count, section-name, index, bit, step-name, question-name, several, spaced-number, opening, step, amp-tail, weight-tail, same-tail, question-tail, question, section, circuit-within, circuit}
 use Rattle.text_grammar.specs.Syntaxes.Syntax.{done, finish, byte, word}

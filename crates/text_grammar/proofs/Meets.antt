@@ -18,9 +18,9 @@ use Rattle.text_words.specs.declared.spelling.StepWord.the-variants.{Close}
 use Rattle.text_words.specs.declared.spelling.QuestionWord.{QuestionWord}
 use Rattle.text_words.specs.declared.spelling.QuestionWord.the-variants.{Amp, Weight, Same}
 use Rattle.text_words.specs.Spelling.{section-word, step-word, question-word, numbers-of, range-of}
-use Rattle.text_words.specs.Numbers.{Small, number-of, digits-value, index-word, all-bits}
-use Rattle.text_words.proofs.Decimal.{number-says, number-decimal}
-use Rattle.text_words.proofs.Indices.{word-index}
+use Rattle.text_numbers.specs.Numbers.{Small, number-of, digits-value, index-word, all-bits}
+use Rattle.text_numbers.proofs.Decimal.{number-says, number-decimal}
+use Rattle.text_numbers.proofs.Indices.{word-index}
 use Rattle.text_grammar.specs.Circuits.{Opening, Step, Question, Ranges, any-count}
 use Rattle.text_grammar.specs.Syntaxes.{Syntax, when, fitting, ranged, number, count, section-name, index, bit, step-name, question-name, several, spaced-number, opening, step, amp-tail, weight-tail, same-tail, question-tail, question, section, circuit-within}
 use Rattle.text_grammar.specs.Syntaxes.Verdict.{fits, beyond}

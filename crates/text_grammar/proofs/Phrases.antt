@@ -23,10 +23,10 @@ use Rattle.text_words.specs.declared.spelling.StepWord.the-variants.{Close}
 use Rattle.text_words.specs.declared.spelling.QuestionWord.{QuestionWord}
 use Rattle.text_words.specs.declared.spelling.QuestionWord.the-variants.{Amp, Weight, Same}
 use Rattle.text_words.specs.Spelling.{has, section-word, step-word, question-word, steps, questions, step-of, question-of, numbers-of}
-use Rattle.text_words.specs.Numbers.{Small, number-of, bit-byte, index-word, all-bits, is-index, bits-of}
+use Rattle.text_numbers.specs.Numbers.{Small, number-of, bit-byte, index-word, all-bits, is-index, bits-of}
 use Rattle.text_words.proofs.Names.{has-is, named-is, step-named, question-named}
-use Rattle.text_words.proofs.Decimal.{number-says, number-decimal}
-use Rattle.text_words.proofs.Indices.{index-says, bits-long, bits-back, word-index}
+use Rattle.text_numbers.proofs.Decimal.{number-says, number-decimal}
+use Rattle.text_numbers.proofs.Indices.{index-says, bits-long, bits-back, word-index}
 use Rattle.text_grammar.specs.Circuits.{Opening, Step, Question, Within, Fits-opening, Fits-step, Fits-question, line-tail, section-line, opening-line, step-line, question-line}
 use Rattle.text_grammar.specs.Circuits.Question.{amp, weight, same}
 use Rattle.text_grammar.specs.Syntaxes.{Syntax, Reading, read, fitting, ranged, when, otherwise, number, count, section-name, index, bit, step-name, question-name, several, spaced-number, opening, step, amp-tail, weight-tail, same-tail, question-tail, question, section}

@@ -17,8 +17,8 @@ use Rattle.text_words.specs.declared.spelling.StepWord.the-variants.{Gate, Copy
 use Rattle.text_words.specs.declared.spelling.QuestionWord.{QuestionWord}
 use Rattle.text_words.specs.declared.spelling.QuestionWord.the-variants.{Amp, Weight, Same}
 use Rattle.text_words.specs.Spelling.{has, section-word, step-word, question-word}
-use Rattle.text_words.specs.Numbers.{Small, digit, index-word}
-use Rattle.text_words.proofs.Decimal.{all-digits, decimal-digits}
+use Rattle.text_numbers.specs.Numbers.{Small, digit, index-word}
+use Rattle.text_numbers.proofs.Decimal.{all-digits, decimal-digits}
 
 -- nothing, or something that ends a word
 abbrev pub Delimited : List ℕ → Type 0

@@ -13,7 +13,7 @@ use Rattle.text_words.specs.declared.spelling.CountRange.{CountRange}
 use Rattle.text_words.specs.declared.spelling.StepWord.{StepWord}
 use Rattle.text_words.specs.declared.spelling.QuestionWord.the-variants.{Amp, Weight, Same}
 use Rattle.text_words.specs.Spelling.{section-word, step-word, question-word, numbers-of, range-of}
-use Rattle.text_words.specs.Numbers.{Small, bit-byte, index-word}
+use Rattle.text_numbers.specs.Numbers.{Small, bit-byte, index-word}
 
 -- a register to be opened at a basis index, whose bits begin with qubit 0
 pub record Opening : Type 0 where

@@ -17,7 +17,7 @@ use Rattle.text_words.specs.declared.spelling.StepWord.the-variants.{Close}
 use Rattle.text_words.specs.declared.spelling.QuestionWord.{QuestionWord}
 use Rattle.text_words.specs.declared.spelling.QuestionWord.the-variants.{Amp, Weight, Same}
 use Rattle.text_words.specs.Spelling.{has, section-word, step-of, question-of, numbers-of, range-of}
-use Rattle.text_words.specs.Numbers.{number-of, is-index, bits-of}
+use Rattle.text_numbers.specs.Numbers.{number-of, is-index, bits-of}
 use Rattle.text_grammar.specs.Circuits.{Circuit, Opening, Step, Question, Ranges}
 use Rattle.text_grammar.specs.Circuits.Question.{amp, weight, same}
 

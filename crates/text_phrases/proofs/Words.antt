@@ -13,8 +13,9 @@ use Rattle.std.specs.declared.option.Option.{Option}
 use Rattle.std.specs.declared.option.Option.the-variants.{Some, None}
 use Rattle.text_words.specs.declared.spelling.Section.{Section}
 use Rattle.text_words.specs.Spelling.{section-word, sections, section-of, has}
-use Rattle.text_words.specs.Numbers.{index-number, bits-value, all-bits, bits-of, is-index, index-of}
-use Rattle.text_words.proofs.Names.{none-not-some, named-is, has-is, section-named}
+use Rattle.text_numbers.specs.Numbers.{index-number, bits-value, all-bits, bits-of, is-index, index-of}
+use Rattle.text_numbers.proofs.Options.{none-not-some}
+use Rattle.text_words.proofs.Names.{named-is, has-is, section-named}
 use Rattle.text_grammar.proofs.Spelled.{section-has}
 
 -- a section's word names it, and no other word does

@@ -10,7 +10,7 @@ use Rattle.text_reader.specs.declared.reader.Reader.{Reader}
 use Rattle.text_reader.specs.declared.fault.TextFault.{TextFault}
 use Rattle.text_reader.specs.Reading.{text-of, rest}
 use Rattle.text_words.specs.declared.spelling.CountRange.{CountRange}
-use Rattle.text_words.specs.Numbers.{index-number}
+use Rattle.text_numbers.specs.Numbers.{index-number}
 use Rattle.text_grammar.specs.Circuits as circuit
 use Rattle.text_grammar.specs.Circuits.Question.{amp, weight, same}
 use Rattle.text_grammar.specs.Syntaxes.{Syntax, read}

@@ -7,6 +7,8 @@ ghost use Rattle.text_phrases.specs.Reading.{Follows, Is, Is-nothing, Counts, 
 use crate::values::Opening;
 use crate::values::Question;
 use crate::values::Step;
+use text_numbers::basis_index;
+use text_numbers::whole_number;
 use text_reader::Reader;
 use text_reader::TextFault;
 use text_words::CountRange;
@@ -14,8 +16,6 @@ use text_words::QuestionWord;
 use text_words::Section;
 use text_words::SectionPartialEq;
 use text_words::StepWord;
-use text_words::basis_index;
-use text_words::whole_number;
 
 fn number(reader: &mut Reader) -> Result<u32, TextFault>
     ensures { λ r. ⌜ Follows syntax.number Is (now (reader .entry)) (now (reader .exit)) r ⌝ }

@@ -30,11 +30,12 @@ standing-moved s t passed same e =
     let whole : text-of s ≡ (before ++ passed) ++ rest t = parted s ∙ ap (λ l. before ++ l) e ∙ sym (append-assoc before passed (rest t)) in
     let long : length (before ++ passed) ≡ length (text-of s) - length (rest t) = omega (arith, ap length whole, length-append (before ++ passed) (rest t)) in
     let cut : take (length (text-of t) - length (rest t)) (text-of t) ≡ before ++ passed =
-          ap (λ l. take (length l - length (rest t)) l) same ∙ ap (take (length (text-of s) - length (rest t))) whole ∙ take-at (before ++ passed) (rest t) _ long in
+    ap (λ l. take (length l - length (rest t)) l) same ∙ ap (take (length (text-of s) - length (rest t))) whole ∙ take-at (before ++ passed) (rest t) _ long in
     standing-after t ∙ ap (λ l. moved-by l one) cut ∙ moved-append before passed one ∙ ap (moved-by passed) (sym (here s))
   where
     parted : (r : Reader) → text-of r ≡ take (r .pos) (r .text .now) ++ rest r
     parted r = sym (take-append-drop (r .pos) (r .text .now))
+
     here : (r : Reader) → standing r ≡ moved-by (take (r .pos) (r .text .now)) (record { line = 1; column = 1 })
     here r = refl
 

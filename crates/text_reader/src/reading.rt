@@ -76,10 +76,10 @@ impl<'a> Reader<'a> {
     pub fn end(&self) -> Result<(), TextFault>
         ensures { λ r. ⌜ Ended (now (self .entry)) r ⌝ }
     {
-        if self.pos < self.text.len() {
-            Err(self.unexpected())
-        } else {
+        if self.pos == self.text.len() {
             Ok(())
+        } else {
+            Err(self.unexpected())
         }
     }
 

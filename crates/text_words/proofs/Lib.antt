@@ -1,3 +1,1 @@
 pub mod Names
-pub mod Decimal
-pub mod Indices

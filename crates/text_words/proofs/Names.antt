@@ -13,6 +13,7 @@ use Rattle.std.proofs.shelf.Tests.{and-parts, eqb-true, cond-true, cond-false, 
 use Rattle.std.specs.declared.option.Option.{Option}
 use Rattle.std.specs.declared.option.Option.the-variants.{Some, None}
 use Rattle.gates.specs.declared.Gate.the-variants.{X, Z, H, S, T, Rx, Ry, Cx, Cz, Ccx}
+use Rattle.text_numbers.proofs.Options.{none-not-some}
 use Rattle.text_words.specs.declared.spelling.Section.{Section}
 use Rattle.text_words.specs.declared.spelling.Section.the-variants.{Qubits, Opens, Steps, Reads}
 use Rattle.text_words.specs.declared.spelling.StepWord.{StepWord}
@@ -20,9 +21,6 @@ use Rattle.text_words.specs.declared.spelling.StepWord.the-variants.{Gate, Cop
 use Rattle.text_words.specs.declared.spelling.QuestionWord.{QuestionWord}
 use Rattle.text_words.specs.declared.spelling.QuestionWord.the-variants.{Amp, Weight, Same}
 use Rattle.text_words.specs.Spelling.{section-word, step-word, question-word, has, named, section-of, step-of, question-of}
-
-pub none-not-some : {A : Type 0} (a : A) → None ≡ Some a → ⊥
-none-not-some a e = let z : _≡_ {A = ℕ} 0 1 = cc in omega arith
 
 has-reads : (w : List ℕ) (i : ℕ) (bs : List ℕ) → has w i bs ≡ true → (length w ≡ i + length bs) × ReadsAt w i bs
 has-reads w i [] h = (eqb-true _ _ h ∙ sym (add-zero i), tt)

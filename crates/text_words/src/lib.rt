@@ -1,9 +1,6 @@
-//! The words of circuit text, told from their bytes.
-mod numbers;
+//! The words that name the sections, steps and questions of circuit text, told from their bytes.
 mod spelling;
 
-pub use numbers::basis_index;
-pub use numbers::whole_number;
 pub use spelling::CountRange;
 pub use spelling::QuestionWord;
 pub use spelling::Section;

@@ -54,14 +54,8 @@ impl Section {
         ensures { λ r. ⌜ r ≡ range-of self ⌝ }
     {
         match self {
-            Section::Qubits => CountRange {
-                least: 1,
-                most: 16,
-            },
-            Section::Opens => CountRange {
-                least: 0,
-                most: 4,
-            },
+            Section::Qubits => CountRange { least: 1, most: 16 },
+            Section::Opens => CountRange { least: 0, most: 4 },
             Section::Steps => CountRange {
                 least: 0,
                 most: 2000,

@@ -31,7 +31,7 @@ returns-then-text-gt-MAX-BYTES c = both (c .args .text .now) _ (sym (ap with-for
 
 pub returns : need.returns
 unfolding checked parsed onward
-returns c = 
+returns c =
     let h = c .new-reader .ensures in
     both (c .args .text .now) _ (
     c .circuit .ensures

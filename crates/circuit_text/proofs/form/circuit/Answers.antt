@@ -9,20 +9,20 @@ use Rattle.circuit_text.proofs.form.circuit.Needs as need
 
 pub returns-in-Break-qubits : need.returns-in-Break-qubits
 unfolding syntax.circuit-within
-returns-in-Break-qubits c = 
+returns-in-Break-qubits c =
     form-stuck _ _ _ (c .from-residual .ensures .1)
     (c .in-Break-qubits .ensures tt _)
 
 pub returns-in-Break-opens : need.returns-in-Break-opens
 unfolding syntax.circuit-within
-returns-in-Break-opens c = 
+returns-in-Break-opens c =
     form-stuck _ _ _ (c .from-residual-in-Break-opens .ensures .1)
     (exact _ _ _ _ _ (c .in-Continue-qubits .ensures tt .1 .0 .0) (c .in-Continue-qubits .ensures tt .1 .1) .goes _
     ∙ c .in-Break-opens .ensures tt _)
 
 pub returns-in-Break-opening-lines : need.returns-in-Break-opening-lines
 unfolding syntax.circuit-within
-returns-in-Break-opening-lines c = 
+returns-in-Break-opening-lines c =
     form-stuck _ _ _ (c .from-residual-in-Break-opening-lines .ensures .1)
     (exact _ _ _ _ _ (c .in-Continue-qubits .ensures tt .1 .0 .0) (c .in-Continue-qubits .ensures tt .1 .1) .goes _
     ∙ exact _ _ _ _ _ (c .in-Continue-opens .ensures tt .1 .0 .0) (c .in-Continue-opens .ensures tt .1 .1) .goes _
@@ -30,7 +30,7 @@ returns-in-Break-opening-lines c =
 
 pub returns-in-Break-steps : need.returns-in-Break-steps
 unfolding syntax.circuit-within
-returns-in-Break-steps c = 
+returns-in-Break-steps c =
     form-stuck _ _ _ (c .from-residual-in-Break-steps .ensures .1)
     (exact _ _ _ _ _ (c .in-Continue-qubits .ensures tt .1 .0 .0) (c .in-Continue-qubits .ensures tt .1 .1) .goes _
     ∙ exact _ _ _ _ _ (c .in-Continue-opens .ensures tt .1 .0 .0) (c .in-Continue-opens .ensures tt .1 .1) .goes _
@@ -39,7 +39,7 @@ returns-in-Break-steps c =
 
 pub returns-in-Break-step-lines : need.returns-in-Break-step-lines
 unfolding syntax.circuit-within
-returns-in-Break-step-lines c = 
+returns-in-Break-step-lines c =
     form-stuck _ _ _ (c .from-residual-in-Break-step-lines .ensures .1)
     (exact _ _ _ _ _ (c .in-Continue-qubits .ensures tt .1 .0 .0) (c .in-Continue-qubits .ensures tt .1 .1) .goes _
     ∙ exact _ _ _ _ _ (c .in-Continue-opens .ensures tt .1 .0 .0) (c .in-Continue-opens .ensures tt .1 .1) .goes _
@@ -49,7 +49,7 @@ returns-in-Break-step-lines c =
 
 pub returns-in-Break-reads : need.returns-in-Break-reads
 unfolding syntax.circuit-within
-returns-in-Break-reads c = 
+returns-in-Break-reads c =
     form-stuck _ _ _ (c .from-residual-in-Break-reads .ensures .1)
     (exact _ _ _ _ _ (c .in-Continue-qubits .ensures tt .1 .0 .0) (c .in-Continue-qubits .ensures tt .1 .1) .goes _
     ∙ exact _ _ _ _ _ (c .in-Continue-opens .ensures tt .1 .0 .0) (c .in-Continue-opens .ensures tt .1 .1) .goes _
@@ -60,7 +60,7 @@ returns-in-Break-reads c =
 
 pub returns-in-Break-question-lines : need.returns-in-Break-question-lines
 unfolding syntax.circuit-within
-returns-in-Break-question-lines c = 
+returns-in-Break-question-lines c =
     form-stuck _ _ _ (c .from-residual-in-Break-question-lines .ensures .1)
     (exact _ _ _ _ _ (c .in-Continue-qubits .ensures tt .1 .0 .0) (c .in-Continue-qubits .ensures tt .1 .1) .goes _
     ∙ exact _ _ _ _ _ (c .in-Continue-opens .ensures tt .1 .0 .0) (c .in-Continue-opens .ensures tt .1 .1) .goes _
@@ -72,7 +72,7 @@ returns-in-Break-question-lines c =
 
 pub returns-in-Break-end : need.returns-in-Break-end
 unfolding syntax.circuit-within
-returns-in-Break-end c = 
+returns-in-Break-end c =
     form-stuck _ _ _ (c .from-residual-in-Break-end .ensures .1)
     (exact _ _ _ _ _ (c .in-Continue-qubits .ensures tt .1 .0 .0) (c .in-Continue-qubits .ensures tt .1 .1) .goes _
     ∙ exact _ _ _ _ _ (c .in-Continue-opens .ensures tt .1 .0 .0) (c .in-Continue-opens .ensures tt .1 .1) .goes _

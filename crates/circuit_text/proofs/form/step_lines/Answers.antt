@@ -16,6 +16,6 @@ pub loop-i-again : need.loop-i-again
 loop-i-again c = (_, underway-more _ _ _ _ _ _ (c .loop-i .inv .1) _ (c .loop-i-test .taken) _ (c .in-Continue-step .ensures tt .1 .1))
 
 pub returns : need.returns
-returns c = 
+returns c =
     let e : c .loop-i .-i ≡ c .args .total = omega arith in
     (_, (c .loop-i .inv .1 .many ∙ e, underway-all _ _ _ _ _ _ (c .loop-i .inv .1) (c .loop-i-test .left)))

@@ -24,8 +24,8 @@ loop-i-again c =
     let bs = c .args .bytes .now in
     let i = c .loop-i .i in
     elim (c .if-b-eq32 .came) [
-      then-b-eq32 w ↦ omega (arith, c .loop-i .inv, space-passed (c .loop-i .left) bs i (c .loop-i-test .taken) (omega arith) (eq-eqb _ _ (w .if-b-eq32 .taken)), ap (λ n. after-spaces n (drop (i + 1) bs)) (w .left-is))
-    | else-b-eq32 w ↦ omega (arith, c .loop-i .inv, byte-passed (c .loop-i .left) bs i (c .loop-i-test .taken) (omega arith) (ne-eqb _ _ (w .if-b-eq32 .left)), ap (λ n. after-spaces n (drop (i + 1) bs)) (w .left-is))
+      | then-b-eq32 w ↦ omega (arith, c .loop-i .inv, space-passed (c .loop-i .left) bs i (c .loop-i-test .taken) (omega arith) (eq-eqb _ _ (w .if-b-eq32 .taken)), ap (λ n. after-spaces n (drop (i + 1) bs)) (w .left-is))
+      | else-b-eq32 w ↦ omega (arith, c .loop-i .inv, byte-passed (c .loop-i .left) bs i (c .loop-i-test .taken) (omega arith) (ne-eqb _ _ (w .if-b-eq32 .left)), ap (λ n. after-spaces n (drop (i + 1) bs)) (w .left-is))
     ]
 
 pub returns : need.returns

@@ -23,8 +23,13 @@ returns-in-Break-expect-2 c = follows-stuck _ _ _ _ _ _ (c .from-residual-in-Bre
 
 pub returns : need.returns
 unfolding syntax.amp-tail
-returns c = 
-    (amp (c .in-Continue-register .ensures tt .0) (c .in-Continue-index .ensures tt .0), ((c .in-Continue-index .ensures tt .0, (ap (λ r. amp r (c .in-Continue-index .ensures tt .0)) (sym (c .in-Continue-register .ensures tt .1 .0)), c .in-Continue-index .ensures tt .1 .0)), record {
+returns c = (
+  amp (c .in-Continue-register .ensures tt .0) (c .in-Continue-index .ensures tt .0),
+  (
+    (c .in-Continue-index .ensures tt .0, (ap (λ r. amp r (c .in-Continue-index .ensures tt .0)) (sym (c .in-Continue-register .ensures tt .1 .0)), c .in-Continue-index .ensures tt .1 .0)),
+    record {
       same = c .in-Continue-expect-2 .ensures tt .0 ∙ c .in-Continue-index .ensures tt .1 .1 .same ∙ c .in-Continue-expect .ensures tt .0 ∙ c .in-Continue-register .ensures tt .1 .1 .same;
       goes = λ k. c .in-Continue-register .ensures tt .1 .1 .goes _ ∙ passed-on 32 _ _ (c .in-Continue-expect .ensures tt) _ ∙ c .in-Continue-index .ensures tt .1 .1 .goes _ ∙ passed-on 10 _ _ (c .in-Continue-expect-2 .ensures tt) _;
-    }))
+    },
+  ),
+)

@@ -7,7 +7,7 @@ use Rattle.text_phrases.proofs.phrases.bit.Needs as need
 
 pub returns-in-Some : need.returns-in-Some
 unfolding syntax.bit
-returns-in-Some c = 
+returns-in-Some c =
     let t = bit-told _ _ (c .in-Some .ensures tt .equals) in
     (_, (refl, reached-word (c .word-word .ensures) _ _ _ (ap when (t .0)) (t .1)))
 

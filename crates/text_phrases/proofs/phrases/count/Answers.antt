@@ -12,7 +12,7 @@ use Rattle.text_phrases.proofs.phrases.count.Needs as need
 
 pub returns-in-Some : need.returns-in-Some
 unfolding syntax.count
-returns-in-Some c = 
+returns-in-Some c =
     let n = c .in-Some .n in
     let h = sym (c .in-Some .ensures tt .equals) in
     let b : (leb (c .args .range .least) n && leb n (c .args .range .most)) ≡ true = grind (arith, tells) in
@@ -20,7 +20,7 @@ returns-in-Some c =
 
 pub returns-in-Some-2 : need.returns-in-Some-2
 unfolding syntax.count
-returns-in-Some-2 c = 
+returns-in-Some-2 c =
     let n = c .in-Some .n in
     let h = sym (c .in-Some .ensures tt .equals) in
     let b : (leb (c .args .range .least) n && leb n (c .args .range .most)) ≡ false = grind (arith, tells) in

@@ -1,5 +1,5 @@
 use mathlib.Core.Path.{refl, ap}
-use Rattle.text_words.specs.Numbers.{bits-of}
+use Rattle.text_numbers.specs.Numbers.{bits-of}
 use Rattle.text_grammar.specs.Syntaxes.{when}
 use Rattle.text_phrases.proofs.Moves.{reached-word, stuck-word}
 use Rattle.text_phrases.proofs.Words.{index-told, no-index}
@@ -8,7 +8,7 @@ use Rattle.text_phrases.proofs.phrases.index.Needs as need
 
 pub returns-in-Some : need.returns-in-Some
 unfolding syntax.index
-returns-in-Some c = 
+returns-in-Some c =
     let t = index-told _ _ _ (c .in-Some .ensures tt .equals) in
     (_, (t .1, reached-word (c .word-word .ensures) _ bits-of _ (ap when (t .0)) refl))
 

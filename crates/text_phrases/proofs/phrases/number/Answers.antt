@@ -6,7 +6,7 @@ use Rattle.text_phrases.proofs.phrases.number.Needs as need
 
 pub returns-in-Some : need.returns-in-Some
 unfolding syntax.number
-returns-in-Some c = 
+returns-in-Some c =
     let h = sym (c .in-Some .ensures tt .equals) in
     (_, (refl, reached-word (c .word-word .ensures) _ _ _ (ap fitting h) (ap (otherwise 0) h)))
 

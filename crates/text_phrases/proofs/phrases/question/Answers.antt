@@ -10,18 +10,18 @@ returns-in-Break-question-name c = follows-stuck _ _ _ _ _ _ (c .from-residual .
 
 pub returns-in-Amp : need.returns-in-Amp
 unfolding syntax.question syntax.question-tail
-returns-in-Amp c = 
+returns-in-Amp c =
     let n = c .in-Continue-question-name .ensures tt in
     follows-then _ _ _ _ _ _ _ (n .1 .1 .same) (λ k. n .1 .1 .goes _ ∙ ap (λ x. onward (syntax.question-tail (c .args .qubits) k x) (c .question-name .last .reader)) (sym (n .1 .0) ∙ c .in-Amp .is)) (c .amp-tail .ensures)
 
 pub returns-in-Weight : need.returns-in-Weight
 unfolding syntax.question syntax.question-tail
-returns-in-Weight c = 
+returns-in-Weight c =
     let n = c .in-Continue-question-name .ensures tt in
     follows-then _ _ _ _ _ _ _ (n .1 .1 .same) (λ k. n .1 .1 .goes _ ∙ ap (λ x. onward (syntax.question-tail (c .args .qubits) k x) (c .question-name .last .reader)) (sym (n .1 .0) ∙ c .in-Weight .is)) (c .weight-tail .ensures)
 
 pub returns-in-Same : need.returns-in-Same
 unfolding syntax.question syntax.question-tail
-returns-in-Same c = 
+returns-in-Same c =
     let n = c .in-Continue-question-name .ensures tt in
     follows-then _ _ _ _ _ _ _ (n .1 .1 .same) (λ k. n .1 .1 .goes _ ∙ ap (λ x. onward (syntax.question-tail (c .args .qubits) k x) (c .question-name .last .reader)) (sym (n .1 .0) ∙ c .in-Same .is)) (c .same-tail .ensures)

@@ -6,7 +6,7 @@ use Rattle.text_phrases.proofs.phrases.question_name.Needs as need
 
 pub returns-in-Some : need.returns-in-Some
 unfolding syntax.question-name
-returns-in-Some c = 
+returns-in-Some c =
     let h = sym (c .in-Some .ensures tt) in
     (_, (refl, reached-word (c .word-word .ensures) _ _ _ (ap fitting h) (ap (otherwise _) h)))
 

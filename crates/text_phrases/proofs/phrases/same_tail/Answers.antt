@@ -19,8 +19,13 @@ returns-in-Break-expect c = follows-stuck _ _ _ _ _ _ (c .from-residual-in-Break
 
 pub returns : need.returns
 unfolding syntax.same-tail
-returns c = 
-    (same (c .in-Continue-first .ensures tt .0) (c .in-Continue-second .ensures tt .0), ((λ i. same (sym (c .in-Continue-first .ensures tt .1 .0) i) (sym (c .in-Continue-second .ensures tt .1 .0) i)), record {
+returns c = (
+  same (c .in-Continue-first .ensures tt .0) (c .in-Continue-second .ensures tt .0),
+  (
+    (λ i. same (sym (c .in-Continue-first .ensures tt .1 .0) i) (sym (c .in-Continue-second .ensures tt .1 .0) i)),
+    record {
       same = c .in-Continue-expect .ensures tt .0 ∙ c .in-Continue-second .ensures tt .1 .1 .same ∙ c .in-Continue-first .ensures tt .1 .1 .same;
       goes = λ k. c .in-Continue-first .ensures tt .1 .1 .goes _ ∙ c .in-Continue-second .ensures tt .1 .1 .goes _ ∙ passed-on 10 _ _ (c .in-Continue-expect .ensures tt) _;
-    }))
+    },
+  ),
+)

@@ -23,8 +23,13 @@ returns-in-Break-expect-2 c = follows-stuck _ _ _ _ _ _ (c .from-residual-in-Bre
 
 pub returns : need.returns
 unfolding syntax.section
-returns c = 
-    (c .in-Continue-total .ensures tt .0, (subst (λ r. Counts r (c .in-Continue-total .total) (c .in-Continue-total .ensures tt .0)) (c .range .ensures) (c .in-Continue-total .ensures tt .1 .0), record {
+returns c = (
+  c .in-Continue-total .ensures tt .0,
+  (
+    subst (λ r. Counts r (c .in-Continue-total .total) (c .in-Continue-total .ensures tt .0)) (c .range .ensures) (c .in-Continue-total .ensures tt .1 .0),
+    record {
       same = c .in-Continue-expect-2 .ensures tt .0 ∙ c .in-Continue-total .ensures tt .1 .1 .same ∙ c .in-Continue-expect .ensures tt .0 ∙ c .in-Continue-section-name .ensures tt .1 .1 .same;
       goes = λ k. c .in-Continue-section-name .ensures tt .1 .1 .goes _ ∙ passed-on 32 _ _ (c .in-Continue-expect .ensures tt) _ ∙ ap (λ r. onward (syntax.count r (λ n. syntax.line-end (k n))) (c .expect .last .self)) (sym (c .range .ensures)) ∙ c .in-Continue-total .ensures tt .1 .1 .goes _ ∙ passed-on 10 _ _ (c .in-Continue-expect-2 .ensures tt) _;
-    }))
+    },
+  ),
+)

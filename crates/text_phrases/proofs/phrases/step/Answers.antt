@@ -20,8 +20,13 @@ returns-in-Break-expect c = follows-stuck _ _ _ _ _ _ (c .from-residual-in-Break
 
 pub returns : need.returns
 unfolding syntax.step
-returns c = 
-    (record { name = c .in-Continue-name .ensures tt .0; numbers = c .in-Continue-numbers .ensures tt .0 }, ((c .in-Continue-name .ensures tt .1 .0, c .in-Continue-numbers .ensures tt .1 .0), record {
+returns c = (
+  record { name = c .in-Continue-name .ensures tt .0; numbers = c .in-Continue-numbers .ensures tt .0 },
+  (
+    (c .in-Continue-name .ensures tt .1 .0, c .in-Continue-numbers .ensures tt .1 .0),
+    record {
       same = c .in-Continue-expect .ensures tt .0 ∙ c .in-Continue-numbers .ensures tt .1 .1 .same ∙ c .in-Continue-name .ensures tt .1 .1 .same;
       goes = λ k. c .in-Continue-name .ensures tt .1 .1 .goes _ ∙ ap (λ m. onward (syntax.several syntax.spaced-number m (λ ns. syntax.line-end (k (record { name = c .in-Continue-name .ensures tt .0; numbers = ns })))) (c .step-name .last .reader)) (ap numbers-of (sym (c .in-Continue-name .ensures tt .1 .0)) ∙ sym (c .numbers .ensures)) ∙ c .in-Continue-numbers .ensures tt .1 .1 .goes _ ∙ passed-on 10 _ _ (c .in-Continue-expect .ensures tt) _;
-    }))
+    },
+  ),
+)

@@ -27,8 +27,13 @@ returns-in-Break-expect-2 c = follows-stuck _ _ _ _ _ _ (c .from-residual-in-Bre
 
 pub returns : need.returns
 unfolding syntax.weight-tail
-returns c = 
-    (weight (c .in-Continue-register .ensures tt .0) (c .in-Continue-qubit .ensures tt .0) (c .in-Continue-outcome .ensures tt .0), ((λ i. weight (sym (c .in-Continue-register .ensures tt .1 .0) i) (sym (c .in-Continue-qubit .ensures tt .1 .0) i) (sym (c .in-Continue-outcome .ensures tt .1 .0) i)), record {
+returns c = (
+  weight (c .in-Continue-register .ensures tt .0) (c .in-Continue-qubit .ensures tt .0) (c .in-Continue-outcome .ensures tt .0),
+  (
+    (λ i. weight (sym (c .in-Continue-register .ensures tt .1 .0) i) (sym (c .in-Continue-qubit .ensures tt .1 .0) i) (sym (c .in-Continue-outcome .ensures tt .1 .0) i)),
+    record {
       same = c .in-Continue-expect-2 .ensures tt .0 ∙ c .in-Continue-outcome .ensures tt .1 .1 .same ∙ c .in-Continue-expect .ensures tt .0 ∙ c .in-Continue-qubit .ensures tt .1 .1 .same ∙ c .in-Continue-register .ensures tt .1 .1 .same;
       goes = λ k. c .in-Continue-register .ensures tt .1 .1 .goes _ ∙ c .in-Continue-qubit .ensures tt .1 .1 .goes _ ∙ passed-on 32 _ _ (c .in-Continue-expect .ensures tt) _ ∙ c .in-Continue-outcome .ensures tt .1 .1 .goes _ ∙ passed-on 10 _ _ (c .in-Continue-expect-2 .ensures tt) _;
-    }))
+    },
+  ),
+)

@@ -8,10 +8,13 @@ pub ghost-result : need.ghost-result
 ghost-result c =
     let form = c .args .self .now .form in
     let same = c .new .ensures .same ∙ c .deref .ensures .value in
-    let whole = c .new .ensures .whole ∙ c .deref .ensures .value in
-    (ap (λ t. passes t form) same ∙ c .args .self .now .passed,
-    (all-ahead _ form (c .new .result) (passed _ form (c .args .self .now .passed)) same whole (c .new .ensures .start),
-    tt))
+    let whole = c .new .ensures .whole ∙ c .deref .ensures .value in (
+      ap (λ t. passes t form) same ∙ c .args .self .now .passed,
+      (
+        all-ahead _ form (c .new .result) (passed _ form (c .args .self .now .passed)) same whole (c .new .ensures .start),
+        tt,
+      ),
+    )
 
 pub returns : need.returns
 returns c =

@@ -39,9 +39,9 @@ returns c =
     let text = c .args .self .now .text .now in
     let pos = c .args .self .now .pos in
     record {
-        same = refl;
-        bytes = c .peek-bytes .ensures;
-        left = sym (drop-drop (length (c .peek-bytes .result .now)) pos text) ∙ ap (λ k. drop k (drop pos text)) (long (need.at·returns c .After-peek-bytes)) ∙ drop-run word-byte (drop pos text);
-        byte = c .byte-byte .ensures;
-        place = stands-place (stands (c .args .self .now));
+      same = refl;
+      bytes = c .peek-bytes .ensures;
+      left = sym (drop-drop (length (c .peek-bytes .result .now)) pos text) ∙ ap (λ k. drop k (drop pos text)) (long (need.at·returns c .After-peek-bytes)) ∙ drop-run word-byte (drop pos text);
+      byte = c .byte-byte .ensures;
+      place = stands-place (stands (c .args .self .now));
     }

@@ -1,8 +1,8 @@
-//! Whole numbers and basis indices, as words write them.
+//! Whole numbers and basis indices, as the words of circuit text write them.
 ghost use mathlib.Core.Path.{_≡_};
 ghost use Prim.Native.Nat.{_≤_};
 ghost use lib.ListN.{length};
-ghost use Rattle.text_words.specs.Numbers.{number-of, well-formed, digits-value, index-of, Reads-number, Reads-index};
+ghost use Rattle.text_numbers.specs.Numbers.{number-of, well-formed, digits-value, index-of, Reads-number, Reads-index};
 
 /// The whole number that a word writes: one to five digits with no needless zero.
 pub fn whole_number(word: &[u8]) -> Option<u32>

@@ -17,8 +17,8 @@ use Rattle.std.proofs.shelf.Tests.{and-parts, and-from, cond-true, cond-false, 
 use Rattle.std.proofs.shelf.Ways.{tells}
 use Rattle.std.specs.declared.option.Option.{Option}
 use Rattle.std.specs.declared.option.Option.the-variants.{Some, None}
-use Rattle.text_words.specs.Numbers.{Small, Reads-number, digit, digits-value, well-formed, number-of}
-use Rattle.text_words.proofs.Names.{none-not-some}
+use Rattle.text_numbers.specs.Numbers.{Small, Reads-number, digit, digits-value, well-formed, number-of}
+use Rattle.text_numbers.proofs.Options.{none-not-some}
 
 -- the loop over the digits: a digit more, another byte, and the end
 pub digits-more : (w : List ℕ) (i v : ℕ) → i < length w → digit (getD w i 0) ≡ true → digits-value v (drop i w) ≡ digits-value (10 * v + (getD w i 0 - 48)) (drop (i + 1) w)

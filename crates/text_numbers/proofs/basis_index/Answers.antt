@@ -8,10 +8,10 @@ use lib.ListN.{length, getD}
 use Rattle.std.proofs.shelf.Tests.{cond-false}
 use Rattle.std.proofs.shelf.Ways.{tells}
 use Rattle.std.specs.declared.option.Option.{Option}
-use Rattle.text_words.specs.Numbers.{index-of, is-index, Reads-index}
-use Rattle.text_words.proofs.Indices.{Bits-read, bits-none, bits-more, bits-room, bits-stop, bits-all, reads-index}
-use Rattle.text_words.proofs.numbers.basis_index.Needs as need
-use Rattle.text_words.proofs.numbers.basis_index.Needs.{in-48, in-49}
+use Rattle.text_numbers.specs.Numbers.{index-of, is-index, Reads-index}
+use Rattle.text_numbers.proofs.Indices.{Bits-read, bits-none, bits-more, bits-room, bits-stop, bits-all, reads-index}
+use Rattle.text_numbers.proofs.basis_index.Needs as need
+use Rattle.text_numbers.proofs.basis_index.Needs.{in-48, in-49}
 
 -- an answer that equals the definition says what the definition says
 both : (n : ℕ) (w : List ℕ) (r : Option ℕ) → r ≡ index-of n w → record { equals : r ≡ index-of n w; reads : Reads-index n w r }

@@ -14,8 +14,8 @@ use Rattle.std.proofs.shelf.Tests.{and-parts, and-from, eqb-true, eq-eqb, cond-
 use Rattle.std.proofs.shelf.Ways.{tells}
 use Rattle.std.specs.declared.option.Option.{Option}
 use Rattle.std.specs.declared.option.Option.the-variants.{Some, None}
-use Rattle.text_words.specs.Numbers.{bit-byte, index-word, bits-value, index-number, all-bits, bits-of, is-index, index-of, Reads-index}
-use Rattle.text_words.proofs.Names.{none-not-some}
+use Rattle.text_numbers.specs.Numbers.{bit-byte, index-word, bits-value, index-number, all-bits, bits-of, is-index, index-of, Reads-index}
+use Rattle.text_numbers.proofs.Options.{none-not-some}
 
 -- some bits of a word are read: what is left of it gives the whole
 pub record Bits-read (w : List ℕ) (i value : ℕ) : Type 0 where

@@ -3,9 +3,9 @@ use mathlib.Core.Bool.{true, false}
 use native.Mathlib.Omega.{arith}
 use lib.ListN.{getD}
 use Rattle.std.proofs.shelf.Ways.{tells}
-use Rattle.text_words.specs.Numbers.{digit}
-use Rattle.text_words.proofs.Decimal.{digits-more, digits-stop, digits-all, value-room, value-more}
-use Rattle.text_words.proofs.numbers.digits.Needs as need
+use Rattle.text_numbers.specs.Numbers.{digit}
+use Rattle.text_numbers.proofs.Decimal.{digits-more, digits-stop, digits-all, value-room, value-more}
+use Rattle.text_numbers.proofs.digits.Needs as need
 
 pub loop-b-holds : need.loop-b-holds
 loop-b-holds c = (omega arith, refl)

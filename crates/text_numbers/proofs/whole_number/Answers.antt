@@ -3,9 +3,9 @@ use mathlib.Core.List.{List}
 use Prim.Native.Nat.{ℕ}
 use Rattle.std.proofs.shelf.Tests.{cond-true, cond-false}
 use Rattle.std.specs.declared.option.Option.{Option}
-use Rattle.text_words.specs.Numbers.{number-of, Reads-number}
-use Rattle.text_words.proofs.Decimal.{reads-number}
-use Rattle.text_words.proofs.numbers.whole_number.Needs as need
+use Rattle.text_numbers.specs.Numbers.{number-of, Reads-number}
+use Rattle.text_numbers.proofs.Decimal.{reads-number}
+use Rattle.text_numbers.proofs.whole_number.Needs as need
 
 -- an answer that equals the definition says what the definition says
 both : (w : List ℕ) (r : Option ℕ) → r ≡ number-of w → record { equals : r ≡ number-of w; reads : Reads-number w r }

@@ -1,0 +1,3 @@
+pub mod Options
+pub mod Decimal
+pub mod Indices

@@ -1,0 +1,8 @@
+-- Nothing is not something.
+use mathlib.Core.Path.{_≡_}
+use Prim.Native.Nat.{ℕ}
+use native.Mathlib.Omega.{arith}
+use Rattle.std.specs.declared.option.Option.the-variants.{Some, None}
+
+pub none-not-some : {A : Type 0} (a : A) → None ≡ Some a → ⊥
+none-not-some a e = let z : _≡_ {A = ℕ} 0 1 = cc in omega arith
