@@ -4,7 +4,7 @@ use text_reader::Place;
 use text_reader::TextFault;
 
 /// Writes the `refused` line on standard output, and a sentence on standard error.
-pub fn refuse(rt: &LibcRuntime, fault: TextFault) -> io::Result<()> {
+pub(crate) fn refuse(rt: &LibcRuntime, fault: TextFault) -> io::Result<()> {
     let number = fault.number();
     let Place { line, column } = fault.place();
     println!(rt, "refused {number} {line} {column}")?;

@@ -8,14 +8,14 @@ use std::io::Read;
 const MOST_BYTES: u64 = 16385;
 
 #[derive(Drop)]
-pub enum Request {
+pub(crate) enum Request {
     Help,
     Version,
     Check(Vec<u8>),
 }
 
 /// Reads the arguments and, where a text is to be checked, the text.
-pub fn asked(rt: &LibcRuntime) -> Result<Request, AnyError> {
+pub(crate) fn asked(rt: &LibcRuntime) -> Result<Request, AnyError> {
     let mut args = env::args(rt)?.skip(1);
     let Some(first) = args.next() else {
         return Ok(Request::Check(standard_input(rt)?));

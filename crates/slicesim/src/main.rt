@@ -2,8 +2,8 @@
 mod explain;
 mod input;
 
+use circuit_text::CircuitText;
 use circuit_text::Form;
-use circuit_text::check_form;
 use input::Request;
 use std::error::AnyError;
 use text_reader::TextFault;
@@ -41,20 +41,20 @@ fn run(rt: &LibcRuntime) -> Result<bool, AnyError> {
     match input::asked(rt)? {
         Request::Help => println!(rt, "{HELP}")?,
         Request::Version => println!(rt, "{VERSION}")?,
-        Request::Check(text) => return answer(rt, check_form(&text)),
+        Request::Check(text) => return answer(rt, CircuitText::check(text)),
     }
     Ok(true)
 }
 
-fn answer(rt: &LibcRuntime, checked: Result<Form, TextFault>) -> Result<bool, AnyError> {
+fn answer(rt: &LibcRuntime, checked: Result<CircuitText, TextFault>) -> Result<bool, AnyError> {
     match checked {
-        Ok(form) => {
+        Ok(circuit) => {
             let Form {
                 qubits,
                 opens,
                 steps,
                 reads,
-            } = form;
+            } = circuit.form();
             println!(rt, "qubits {qubits}")?;
             println!(rt, "form opens {opens} steps {steps} reads {reads}")?;
             Ok(true)
