@@ -2,6 +2,7 @@
 use std::env;
 use std::error::AnyError;
 use std::fs::File;
+use std::io;
 use std::io::Read;
 
 /// One byte more than a circuit text may have: enough to see that a text is too long.
@@ -37,6 +38,13 @@ fn standard_input(rt: &LibcRuntime) -> Result<Vec<u8>, AnyError> {
 }
 
 fn file(rt: &LibcRuntime, path: &str) -> Result<Vec<u8>, AnyError> {
+    match bytes_of(rt, path) {
+        Ok(text) => Ok(text),
+        Err(error) => Err(format!(rt.alloc(), "cannot read {path}: {error}")?.into()),
+    }
+}
+
+fn bytes_of(rt: &LibcRuntime, path: &str) -> io::Result<Vec<u8>> {
     let mut text = Vec::new(rt.alloc());
     File::open(rt, path)?
         .take(MOST_BYTES)
