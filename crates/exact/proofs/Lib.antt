@@ -1,0 +1,4 @@
+pub mod Integers
+pub mod Ring
+pub mod Expressions
+pub mod Roots

@@ -1,0 +1,5 @@
+pub mod Indices
+pub mod Quadruples
+pub mod States
+pub mod Squares
+pub mod Laws

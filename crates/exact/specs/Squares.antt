@@ -1,0 +1,61 @@
+-- Squares of quadruples, and their sums over sets of indices.
+use Prim.Native.Nat.{ℕ, _+_, _*_, _^_}
+use mathlib.Core.Bool.{Bool, true, cond, not, Bool·beq}
+use mathlib.Core.List.{List}
+use lib.IntN.{ℤ, pos, _+ℤ_, _-ℤ_, _*ℤ_, natAbs}
+use Rattle.exact.specs.declared.Quadruple.{Quadruple}
+use Rattle.exact.specs.declared.Weight.{Weight}
+use Rattle.exact.specs.Indices.{Index, bit, at-index, total}
+use Rattle.exact.specs.Quadruples.{zero-quadruple}
+use Rattle.exact.specs.States.{State}
+
+-- the number whole + root · √2
+pub record Square : Type 0 where
+  pub whole : ℕ
+  pub root : ℤ
+
+abbrev pub squared : ℤ → ℕ
+squared z = natAbs z * natAbs z
+
+-- |aω³ + bω² + cω + d|² is a²+b²+c²+d² and √2 times ab+bc+cd−ad
+abbrev pub square : Quadruple → Square
+square q = record {
+  whole = squared (q .a) + squared (q .b) + squared (q .c) + squared (q .d);
+  root = q .a *ℤ q .b +ℤ q .b *ℤ q .c +ℤ q .c *ℤ q .d -ℤ q .a *ℤ q .d;
+}
+
+abbrev pub no-square : Square
+no-square = record { whole = 0; root = pos 0 }
+
+abbrev pub add-squares : Square → Square → Square
+add-squares s t = record { whole = s .whole + t .whole; root = s .root +ℤ t .root }
+
+-- 2^e times a square
+abbrev pub times-power-of-2 : ℕ → Square → Square
+times-power-of-2 e s = record { whole = 2 ^ e * s .whole; root = pos (2 ^ e) *ℤ s .root }
+
+-- the quadruple at an index
+abbrev pub quadruple-at : List Quadruple → Index → Quadruple
+quadruple-at v x = at-index zero-quadruple v x
+
+-- the sum of the squares over the indices of n qubits at which p holds
+unfoldable pub sum-of-squares : ℕ → (Index → Bool) → List Quadruple → Square
+sum-of-squares n p v = total add-squares n (λ x. cond (p x) (square (quadruple-at v x)) no-square)
+
+abbrev pub everywhere : Index → Bool
+everywhere x = true
+
+abbrev pub elsewhere : (Index → Bool) → Index → Bool
+elsewhere p x = not (p x)
+
+-- qubit q has the outcome b
+abbrev pub outcome : ℕ → Bool → Index → Bool
+outcome q b x = Bool·beq (bit x q) b
+
+-- the weight of a set of indices: the power of √2 of the amplitudes is the power of 2 of their squares
+abbrev pub weight : ℕ → (Index → Bool) → State → Weight
+weight n p s = record {
+  whole = sum-of-squares n p (s .quadruples) .whole;
+  root = sum-of-squares n p (s .quadruples) .root;
+  power = record { 0 = s .power .0 };
+}
