@@ -9,19 +9,25 @@ use lib.IntN.{pos}
 use Rattle.std.specs.Iters.{counting}
 use Rattle.exact.specs.declared.Amplitude.{Amplitude}
 use Rattle.exact.specs.declared.Quadruple.{Quadruple}
-use Rattle.exact.specs.Indices.{Index, number, bits, bit, listing}
-use Rattle.exact.specs.Quadruples.{one-quadruple, add, multiply, times-ω, times-√2, odd-sum, over-√2}
+use Rattle.exact.specs.Indices.{Index, number, bits, bit, listing, at-index}
+use Rattle.exact.specs.Quadruples.{zero-quadruple, one-quadruple, add, multiply, times-ω, times-√2, odd-sum, over-√2}
 use Rattle.exact.specs.States.{Same-amplitude, State, Same-amplitudes, some-odd-sum, In-normal-form, normal-form, All-fit, width}
 use Rattle.exact.specs.Squares.{square, add-squares, sum-of-squares, everywhere, elsewhere, outcome}
 
--- indices as numbers, and lists in index order as tables over numbers
+-- a list in index order is made of its elements, and is a table over the numbers below 2^n
+pub record Listing-laws {A : Type 0} (none : A) : Type 0 where
+  pub element : (n : ℕ) (f : Index → A) (x : Index) → length x ≡ n → at-index none (listing n f) x ≡ f x
+  pub made-of-elements : (n : ℕ) (v : List A) → length v ≡ 2 ^ n → listing n (at-index none v) ≡ v
+  pub table : (n : ℕ) (f : Index → A) → listing n f ≡ map (λ (i : ℕ). f (bits n i)) (counting 0 (2 ^ n))
+
+-- indices as numbers; truth tables and lists of quadruples in index order
 pub record Index-laws : Type 0 where
   pub below : (x : Index) → number x < 2 ^ length x
   pub number-of-bits : (n i : ℕ) → i < 2 ^ n → number (bits n i) ≡ i
   pub bits-of-number : (x : Index) → bits (length x) (number x) ≡ x
   pub highest-first : (n q i : ℕ) → q < n → bit (bits n i) q ≡ eqb (i / 2 ^ (n - 1 - q) % 2) 1
-  pub table-of-bits : (n : ℕ) (f : Index → Bool) → listing n f ≡ map (λ (i : ℕ). f (bits n i)) (counting 0 (2 ^ n))
-  pub table-of-quadruples : (n : ℕ) (f : Index → Quadruple) → listing n f ≡ map (λ (i : ℕ). f (bits n i)) (counting 0 (2 ^ n))
+  pub truth-tables : Listing-laws false
+  pub quadruples : Listing-laws zero-quadruple
 
 -- multiplication, and ω and √2 in it
 pub record Ring-laws : Type 0 where

@@ -1,0 +1,5 @@
+use Rattle.exact.proofs.Squares.{halved, parted, outcomes}
+use Rattle.exact.proofs.laws.square_laws.Needs as need
+
+pub returns : need.returns
+returns c = record { halved = halved; parted = parted; outcomes = outcomes }
