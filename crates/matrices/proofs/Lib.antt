@@ -1,0 +1,5 @@
+pub mod Small
+pub mod Computed
+pub mod Table
+pub mod Multiplied
+pub mod Columns

@@ -2,8 +2,8 @@
 use Prim.Native.Nat.{ℕ, _^_}
 use mathlib.Core.Path.{_≡_}
 use mathlib.Core.Bool.{true, false}
-use mathlib.Core.List.{List, [], _∷_}
-use lib.ListN.{length}
+use mathlib.Core.List.{List, map}
+use lib.ListN.{length, replicate}
 use lib.IntN.{pos}
 use Rattle.exact.specs.declared.Quadruple.{Quadruple}
 use Rattle.exact.specs.declared.RootTwoPower.{RootTwoPower}
@@ -12,19 +12,13 @@ use Rattle.exact.specs.States.{State, Same-amplitudes, In-normal-form}
 use Rattle.exact.specs.Squares.{Square, add-squares, times-power-of-2, sum-of-squares, everywhere, outcome}
 use Rattle.gates.specs.declared.Gate.{Gate}
 use Rattle.gates.specs.Arity.{qubits-of}
-use Rattle.matrices.specs.Gates.{Entry, gate-matrix, power-of}
+use Rattle.matrices.specs.Gates.{gate-matrix, power-of}
 use Rattle.matrices.specs.Registers.{Move, applied, opened, carried, register, Move-placed, All-placed}
 use Rattle.matrices.specs.Products.{product-of, column, Same-matrix}
 
--- every row has m entries
-abbrev pub All-long : ℕ → List (List Entry) → Type 0
-All-long m [] = Unit {0}
-All-long m (row ∷ rows) = (length row ≡ m) × All-long m rows
-
 pub record Gate-laws : Type 0 where
   -- the table has 2^m rows of 2^m entries for a gate of m qubits
-  pub as-many-rows : (g : Gate) → length (gate-matrix g .rows) ≡ 2 ^ qubits-of g
-  pub as-long-rows : (g : Gate) → All-long (2 ^ qubits-of g) (gate-matrix g .rows)
+  pub square-shaped : (g : Gate) → map length (gate-matrix g .rows) ≡ replicate (2 ^ qubits-of g) (2 ^ qubits-of g)
   -- a gate multiplies the sum of squares of any list by 2 to the power of its factor
   pub multiplies : (n : ℕ) (m : Move) (v : List Quadruple) → Move-placed n m
       → sum-of-squares n everywhere (applied n m v) ≡ times-power-of-2 (power-of (m .gate)) (sum-of-squares n everywhere v)
