@@ -77,6 +77,16 @@ same-equal (false ∷ x) (true ∷ y) e = absurd (false≢true e)
 same-equal (true ∷ x) (false ∷ y) e = absurd (false≢true e)
 same-equal (true ∷ x) (true ∷ y) e = ap (λ (z : Index). true ∷ z) (same-equal x y e)
 
+pub same-swap : (x y : Index) → same-index x y ≡ same-index y x
+unfolding same-index
+same-swap [] [] = refl
+same-swap [] (c ∷ y) = refl
+same-swap (b ∷ x) [] = refl
+same-swap (false ∷ x) (false ∷ y) = same-swap x y
+same-swap (false ∷ x) (true ∷ y) = refl
+same-swap (true ∷ x) (false ∷ y) = refl
+same-swap (true ∷ x) (true ∷ y) = same-swap x y
+
 -- ---- numbers
 pub double : (n : ℕ) → 2 ^ n + 2 ^ n ≡ 2 ^ suc n
 double n = omega arith

@@ -3,3 +3,5 @@ pub mod Computed
 pub mod Table
 pub mod Multiplied
 pub mod Columns
+pub mod Registers
+pub mod Weights

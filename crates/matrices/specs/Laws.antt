@@ -25,10 +25,10 @@ pub record Gate-laws : Type 0 where
 
 pub record Product-laws : Type 0 where
   -- column x of the product is the gates applied one after the other to the basis state x
-  pub columns : (n : ℕ) (x : Index) (l : List Move) → length x ≡ n → All-placed n l → column n (product-of n l) x ≡ carried n (opened n x) l
+  pub columns : (n : ℕ) (x : Index) (l : List Move) → All-placed n l → column n (product-of n l) x ≡ carried n (opened n x) l
   -- a register is in normal form, and has the amplitudes of that column
   pub normal : (n : ℕ) (x : Index) (l : List Move) → In-normal-form (register n x l)
-  pub amplitudes : (n : ℕ) (x : Index) (l : List Move) → length x ≡ n → All-placed n l → Same-amplitudes (register n x l) (column n (product-of n l) x)
+  pub amplitudes : (n : ℕ) (x : Index) (l : List Move) → All-placed n l → Same-amplitudes (register n x l) (column n (product-of n l) x)
   -- equal products from the same opening give equal registers
   pub equal : (n : ℕ) (x : Index) (l m : List Move) → length x ≡ n → All-placed n l → All-placed n m
       → Same-matrix n (product-of n l) (product-of n m) → register n x l ≡ register n x m
