@@ -41,13 +41,13 @@ no-odd-sum q = or-from (odd ((q .b -ℤ q .d) +ℤ (q .b +ℤ q .d))) (odd ((q .
     e₂ : (x y : ℤ) → (x +ℤ y) +ℤ (y -ℤ x) ≡ y +ℤ y
     e₂ x y = omega (arith, ints)
 
--- of two integers with an even sum, s and t are the halves of sum and difference
-record Halves (x y : ℤ) : Type 0 where
-  sum : half (x +ℤ y) +ℤ half (x +ℤ y) ≡ x +ℤ y
-  up : half (y -ℤ x) +ℤ half (y -ℤ x) ≡ y -ℤ x
-  down : half (x -ℤ y) +ℤ half (x -ℤ y) ≡ x -ℤ y
+-- of two integers with an even sum, the halves of the sum and of both differences
+pub record Halves (x y : ℤ) : Type 0 where
+  pub sum : half (x +ℤ y) +ℤ half (x +ℤ y) ≡ x +ℤ y
+  pub up : half (y -ℤ x) +ℤ half (y -ℤ x) ≡ y -ℤ x
+  pub down : half (x -ℤ y) +ℤ half (x -ℤ y) ≡ x -ℤ y
 
-halves : (x y : ℤ) → odd (x +ℤ y) ≡ false → Halves x y
+pub halves : (x y : ℤ) → odd (x +ℤ y) ≡ false → Halves x y
 halves x y e =
     let s : half (x +ℤ y) +ℤ half (x +ℤ y) ≡ x +ℤ y = half-of (x +ℤ y) e in
     record {

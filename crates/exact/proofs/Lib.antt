@@ -10,3 +10,6 @@ pub mod Division
 pub mod NormalForms
 pub mod Widths
 pub mod Squares
+pub mod Halves
+pub mod Shares
+pub mod Comparison

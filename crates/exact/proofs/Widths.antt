@@ -5,11 +5,11 @@ use mathlib.Core.Path.{_≡_}
 use mathlib.Core.List.{List, [], _∷_}
 use lib.Dec.{eqb}
 use lib.Pow.{pow-mono, pow-pos}
-use lib.IntN.{ℤ, pos, negsuc, negℤ}
+use lib.IntN.{ℤ, pos, negℤ}
 use lib.Signed.{mag, _≤ℤ_, _<ℤ_}
-use borrow.Author.Differences.{ints}
 use Rattle.std.proofs.shelf.Tests.{eqb-true, eqb-false, cond-both}
 use Rattle.exact.specs.declared.Quadruple.{Quadruple}
+use Rattle.exact.proofs.Integers.{range-from, range-to}
 use Rattle.exact.specs.States.{bits-within, width-of, width, Entry-fits, All-four-fit, All-fit}
 
 -- ---- bits of a natural number
@@ -32,15 +32,7 @@ bits-least (suc f) n zero h = cond-both (eqb n 0) zero (suc (bits-within f (n / 
 bits-least (suc f) n (suc k) h = cond-both (eqb n 0) zero (suc (bits-within f (n / 2))) (λ b. b ≤ suc k) (λ e. omega arith)
     (λ e. let d : 2 ^ suc k ≡ 2 ^ k + 2 ^ k = omega arith in let l : n / 2 < 2 ^ k = omega arith in let r = bits-least f (n / 2) k l in omega arith)
 
--- ---- an entry: z is from −p to p−1 exactly if `mag z` is below p
-range-from : (z : ℤ) (p : ℕ) → mag z < p → (negℤ (pos p) ≤ℤ z) × (z <ℤ pos p)
-range-from (pos n) p h = (omega (arith, ints), omega (arith, ints))
-range-from (negsuc n) p h = (omega (arith, ints), omega (arith, ints))
-
-range-to : (z : ℤ) (p : ℕ) → negℤ (pos p) ≤ℤ z → z <ℤ pos p → mag z < p
-range-to (pos n) p h k = omega (arith, ints)
-range-to (negsuc n) p h k = omega (arith, ints)
-
+-- ---- an entry
 entry-fits : (z : ℤ) (w : ℕ) → width-of z ≤ w → Entry-fits w z
 entry-fits z w h =
     let m : 2 ^ bits-within (mag z) (mag z) ≤ 2 ^ (w - 1) = pow-mono (let l : bits-within (mag z) (mag z) ≤ w - 1 = omega arith in l) in

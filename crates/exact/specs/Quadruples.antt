@@ -1,8 +1,10 @@
 -- Quadruples (a, b, c, d), which stand for aω³ + bω² + cω + d, where ω⁴ = −1, ω² is the imaginary unit and √2 = ω − ω³.
 use Prim.Native.Nat.{ℕ, zero, suc, _+_, _*_, _%_, _/_}
-use mathlib.Core.Bool.{Bool, _||_}
+use mathlib.Core.Bool.{Bool, cond, _||_}
 use lib.Dec.{eqb}
 use lib.IntN.{ℤ, pos, negsuc, _+ℤ_, _-ℤ_, _*ℤ_, negℤ, natAbs}
+use Rattle.std.specs.declared.option.Option.{Option}
+use Rattle.std.specs.declared.option.Option.the-variants.{None, Some}
 use Rattle.exact.specs.declared.Quadruple.{Quadruple}
 
 abbrev pub quadruple : ℤ → ℤ → ℤ → ℤ → Quadruple
@@ -56,3 +58,10 @@ odd-sum q = odd (q .a +ℤ q .c) || odd (q .b +ℤ q .d)
 -- divided by √2, where no sum is odd
 abbrev pub over-√2 : Quadruple → Quadruple
 over-√2 q = quadruple (half (q .b -ℤ q .d)) (half (q .a +ℤ q .c)) (half (q .b +ℤ q .d)) (half (q .c -ℤ q .a))
+
+-- the division by √2, and half of a sum, where they are whole
+abbrev pub division : Quadruple → Option Quadruple
+division q = cond (odd-sum q) None (Some (over-√2 q))
+
+abbrev pub half-sum : ℤ → ℤ → Option ℤ
+half-sum x y = cond (odd (x +ℤ y)) None (Some (half (x +ℤ y)))

@@ -4,6 +4,8 @@ use mathlib.Core.Bool.{Bool, true, cond, not, Bool·beq}
 use mathlib.Core.List.{List}
 use lib.IntN.{ℤ, pos, _+ℤ_, _-ℤ_, _*ℤ_, natAbs}
 use Rattle.exact.specs.declared.Quadruple.{Quadruple}
+use Rattle.exact.specs.declared.RootTwoPower.{RootTwoPower}
+use Rattle.exact.specs.declared.TwoPower.{TwoPower}
 use Rattle.exact.specs.declared.Weight.{Weight}
 use Rattle.exact.specs.Indices.{Index, bit, at-index, total}
 use Rattle.exact.specs.Quadruples.{zero-quadruple}
@@ -52,10 +54,14 @@ elsewhere p x = not (p x)
 abbrev pub outcome : ℕ → Bool → Index → Bool
 outcome q b x = Bool·beq (bit x q) b
 
--- the weight of a set of indices: the power of √2 of the amplitudes is the power of 2 of their squares
+-- the squares of numbers divided k times by √2 are divided k times by 2
+abbrev pub power-of-squares : RootTwoPower → TwoPower
+power-of-squares k = record { 0 = k .0 }
+
+-- the weight of a set of indices
 abbrev pub weight : ℕ → (Index → Bool) → State → Weight
 weight n p s = record {
   whole = sum-of-squares n p (s .quadruples) .whole;
   root = sum-of-squares n p (s .quadruples) .root;
-  power = record { 0 = s .power .0 };
+  power = power-of-squares (s .power);
 }

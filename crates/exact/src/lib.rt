@@ -1,7 +1,9 @@
 //! Exact numbers: quadruples, amplitudes, weights and shares, with the laws they obey.
 //!
 //! ω is exp(iπ/4), so ω⁴ = −1, the imaginary unit is ω², and √2 is ω − ω³.
+pub mod amplitudes;
 pub mod laws;
+pub mod weights;
 
 /// How many times an amplitude is divided by √2.
 #[derive(Clone, Copy, PartialEq, Eq)]
