@@ -60,8 +60,8 @@ module _ (low high : Amplitude) (h : low .power .0 ≤ high .power .0) where
       let d : ℕ = high .power .0 - k - 1 in
       let m : (k - low .power .0) + suc d ≡ high .power .0 - low .power .0 = omega arith in
       let f : times-power-of-√2 (suc d) (low .quadruple) ≡ now =
-          powers-injective (k - low .power .0) (times-power-of-√2 (suc d) (low .quadruple)) now
-          (powers-add (k - low .power .0) (suc d) (low .quadruple) ∙ ap (λ (n : ℕ). times-power-of-√2 n (low .quadruple)) m ∙ raised-to s ∙ sym i) in
+      powers-injective (k - low .power .0) (times-power-of-√2 (suc d) (low .quadruple)) now
+      (powers-add (k - low .power .0) (suc d) (low .quadruple) ∙ ap (λ (n : ℕ). times-power-of-√2 n (low .quadruple)) m ∙ raised-to s ∙ sym i) in
       true≢false (sym (was-odd now e) ∙ ap odd-sum (sym f) ∙ no-odd-sum (times-power-of-√2 d (low .quadruple)))
 
   -- where it runs to the end, they are the same exactly if the quadruples are equal

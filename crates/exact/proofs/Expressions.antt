@@ -6,7 +6,7 @@ use mathlib.Core.List.{List, [], _∷_}
 use lib.ListN.{getD}
 use lib.IntN.{ℤ, pos, negsuc, _+ℤ_, _-ℤ_, _*ℤ_, negℤ, natAbs}
 use Rattle.exact.specs.declared.Quadruple.{Quadruple}
-use Rattle.exact.specs.Quadruples.{quadruple, zero-quadruple, add, multiply, times-ω, times-power-of-ω, times-√2}
+use Rattle.exact.specs.Quadruples.{quadruple, zero-quadruple, one-quadruple, add, multiply, times-ω, times-power-of-ω, times-√2}
 use Rattle.exact.specs.Squares.{squared, square}
 use Rattle.exact.proofs.Ring.{Expr, var, num, plus, times, minus, eval, normal, solve}
 
@@ -41,6 +41,9 @@ multiply-expr p q = four
     (sub (plus (plus (times (p .b) (q .d)) (times (p .c) (q .c))) (times (p .d) (q .b))) (times (p .a) (q .a)))
     (sub (sub (plus (times (p .c) (q .d)) (times (p .d) (q .c))) (times (p .a) (q .b))) (times (p .b) (q .a)))
     (sub (sub (sub (times (p .d) (q .d)) (times (p .a) (q .c))) (times (p .b) (q .b))) (times (p .c) (q .a)))
+
+abbrev pub conjugate-expr : Quadruple-expr → Quadruple-expr
+conjugate-expr q = four (minus (q .c)) (minus (q .b)) (minus (q .a)) (q .d)
 
 abbrev pub times-ω-expr : Quadruple-expr → Quadruple-expr
 times-ω-expr q = four (q .b) (q .c) (q .d) (minus (q .a))
@@ -95,12 +98,9 @@ pub distributes : (p q r : Quadruple) → multiply p (add q r) ≡ add (multiply
 unfolding eval eval-quadruple normal
 distributes p q r = solve-quadruple (p ∷ (q ∷ (r ∷ []))) (multiply-expr (vars 0) (add-expr (vars 4) (vars 8))) (add-expr (multiply-expr (vars 0) (vars 4)) (multiply-expr (vars 0) (vars 8))) refl refl refl refl
 
-abbrev one-expr : Quadruple-expr
-one-expr = four (num (pos 0)) (num (pos 0)) (num (pos 0)) (num (pos 1))
-
-pub one-times : (q : Quadruple) → multiply (quadruple (pos 0) (pos 0) (pos 0) (pos 1)) q ≡ q
+pub one-times : (q : Quadruple) → multiply one-quadruple q ≡ q
 unfolding eval eval-quadruple normal
-one-times q = solve-quadruple (q ∷ []) (multiply-expr one-expr (vars 0)) (vars 0) refl refl refl refl
+one-times q = solve-quadruple (q ∷ []) (multiply-expr (numbers one-quadruple) (vars 0)) (vars 0) refl refl refl refl
 
 pub zero-times : (q : Quadruple) → multiply zero-quadruple q ≡ zero-quadruple
 unfolding eval eval-quadruple normal

@@ -3,15 +3,15 @@ use Prim.Native.Nat.{ℕ, suc, zero, _+_, _-_, _≤_, _<_}
 use native.Mathlib.Omega.{arith}
 use mathlib.Core.Path.{_≡_, refl, sym, ap, ap₂, subst, _∙_}
 use mathlib.Core.List.{List, [], _∷_}
-use lib.IntN.{ℤ, pos, _+ℤ_, _-ℤ_, natAbs}
+use lib.IntN.{ℤ, pos, _+ℤ_, _-ℤ_, negℤ, natAbs}
 use borrow.Author.Differences.{ints}
 use Rattle.exact.specs.declared.Amplitude.{Amplitude}
 use Rattle.exact.specs.declared.Quadruple.{Quadruple}
-use Rattle.exact.specs.Quadruples.{one-quadruple, add, multiply, times-ω, times-√2, times-power-of-√2}
+use Rattle.exact.specs.Quadruples.{quadruple, one-quadruple, add, multiply, conjugate, times-ω, times-√2, times-power-of-√2}
 use Rattle.exact.specs.States.{amplitude, Same-amplitude}
-use Rattle.exact.specs.Squares.{Square, square, add-squares}
-use Rattle.exact.proofs.Ring.{Expr, plus, eval, normal, solve}
-use Rattle.exact.proofs.Expressions.{quadruple-path, vars, whole-expr, root-expr, times-√2-expr, parts, eval-quadruple, whole-is, root-is, one-times, ω-times, √2-times}
+use Rattle.exact.specs.Squares.{Square, square, square-quadruple, add-squares}
+use Rattle.exact.proofs.Ring.{num, plus, minus, eval, normal, solve}
+use Rattle.exact.proofs.Expressions.{quadruple-path, four, vars, multiply-expr, conjugate-expr, whole-expr, root-expr, times-√2-expr, parts, eval-quadruple, solve-quadruple, whole-is, root-is, one-times, ω-times, √2-times}
 
 pub by-ω : (q : Quadruple) → times-ω q ≡ multiply (times-ω one-quadruple) q
 by-ω q = sym (ω-times one-quadruple q ∙ ap times-ω (one-times q))
@@ -49,6 +49,14 @@ doubles-square q =
     square-path
     (ap natAbs (sym (whole-is ρ (times-√2-expr (vars 0))) ∙ solve ρ (whole-expr (times-√2-expr (vars 0))) (plus (whole-expr (vars 0)) (whole-expr (vars 0))) refl ∙ ap₂ (λ (x y : ℤ). x +ℤ y) (whole-is ρ (vars 0)) (whole-is ρ (vars 0))))
     (solve ρ (root-expr (times-√2-expr (vars 0))) (plus (root-expr (vars 0)) (root-expr (vars 0))) refl)
+
+-- a number times its conjugate
+pub of-modulus : (q : Quadruple) → multiply q (conjugate q) ≡ square-quadruple (square q)
+unfolding eval eval-quadruple normal
+of-modulus q =
+    let ρ : List ℤ = parts (q ∷ []) in
+    solve-quadruple (q ∷ []) (multiply-expr (vars 0) (conjugate-expr (vars 0))) (four (minus (root-expr (vars 0))) (num (pos 0)) (root-expr (vars 0)) (whole-expr (vars 0))) refl refl refl refl
+    ∙ ap (λ (w : ℤ). quadruple (negℤ (square q .root)) (pos 0) (square q .root) w) (whole-is ρ (vars 0))
 
 -- ---- several times √2
 pub powers-injective : (n : ℕ) (p q : Quadruple) → times-power-of-√2 n p ≡ times-power-of-√2 n q → p ≡ q

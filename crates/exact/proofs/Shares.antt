@@ -1,14 +1,42 @@
 -- The nearest whole number, and the share of a weight.
 use Prim.Native.Nat.{ℕ, suc, _+_, _-_, _*_, _/_, _%_, _^_, _≤_, _<_}
 use native.Mathlib.Omega.{arith}
-use native.Mathlib.Nat.{div-eq-of-lt}
+use native.Mathlib.Nat.{div-eq-of-lt, div-eq-of-lt-le, div-mul-le-self, div-add-mod', mod-lt, mul-left-comm, add-mul}
 use mathlib.Core.Path.{_≡_, refl, sym, ap, _∙_}
 use lib.Pow.{pow-mono, pow-pos}
 use lib.IntN.{ℤ, pos, negsuc, natAbs}
 use mir.Syntax.{w64}
 use mir.Val.{SFits, ofZ}
 use Rattle.std.proofs.shelf.Bits.{one-shl, pow-below}
+use Rattle.exact.specs.Laws.{Nearest}
 use Rattle.exact.specs.Shares.{nearest}
+
+-- ---- rounding
+quotient-low : (n m : ℕ) → (n / m) * m ≤ n
+quotient-low n m = div-mul-le-self n m
+
+quotient-high : (n m : ℕ) → 0 < m → n < (n / m) * m + m
+quotient-high n m h = let e = div-add-mod' n m in let r : n % m < m = mod-lt n h in omega arith
+
+regroup : (s m : ℕ) → s * (2 * m) ≡ 2 * (s * m)
+regroup s m = omega (arith, mul-left-comm s 2 m)
+
+pub rounded : (n m : ℕ) → 0 < m → Nearest n m (nearest n m)
+unfolding nearest
+rounded n m h =
+    let e = regroup ((2 * n + m) / (2 * m)) m in
+    let l = quotient-low (2 * n + m) (2 * m) in
+    let u = quotient-high (2 * n + m) (2 * m) (let p : 0 < 2 * m = omega arith in p) in
+    record { not-above = omega arith; not-below = omega arith }
+
+pub only : (n m s : ℕ) → Nearest n m s → s ≡ nearest n m
+unfolding nearest
+only n m s h =
+    let e = regroup s m in
+    let f : (s + 1) * (2 * m) ≡ s * (2 * m) + 2 * m = omega (arith, add-mul s 1 (2 * m)) in
+    let l : s * (2 * m) ≤ 2 * n + m = omega (arith, h .not-above) in
+    let u : 2 * n + m < (s + 1) * (2 * m) = omega (arith, h .not-below) in
+    sym (div-eq-of-lt-le (2 * m) l u)
 
 -- less than half is rounded to nothing
 nearest-none : (n m : ℕ) → 2 * n < m → nearest n m ≡ 0

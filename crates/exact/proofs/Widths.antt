@@ -19,11 +19,11 @@ bits-enough zero n h = omega arith
 bits-enough (suc f) n h = cond-both (eqb n 0) zero (suc (bits-within f (n / 2))) (λ b. n < 2 ^ b)
     (λ e. let z = eqb-true n 0 e in omega arith)
     (λ e.
-        let z = eqb-false n 0 e in
-        let k : n / 2 ≤ f = omega arith in
-        let r = bits-enough f (n / 2) k in
-        let d : 2 ^ suc (bits-within f (n / 2)) ≡ 2 ^ bits-within f (n / 2) + 2 ^ bits-within f (n / 2) = omega arith in
-        omega arith)
+    let z = eqb-false n 0 e in
+    let k : n / 2 ≤ f = omega arith in
+    let r = bits-enough f (n / 2) k in
+    let d : 2 ^ suc (bits-within f (n / 2)) ≡ 2 ^ bits-within f (n / 2) + 2 ^ bits-within f (n / 2) = omega arith in
+    omega arith)
 
 bits-least : (f n k : ℕ) → n < 2 ^ k → bits-within f n ≤ k
 unfolding bits-within

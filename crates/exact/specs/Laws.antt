@@ -10,9 +10,10 @@ use Rattle.std.specs.Iters.{counting}
 use Rattle.exact.specs.declared.Amplitude.{Amplitude}
 use Rattle.exact.specs.declared.Quadruple.{Quadruple}
 use Rattle.exact.specs.Indices.{Index, number, bits, bit, listing, at-index}
-use Rattle.exact.specs.Quadruples.{zero-quadruple, one-quadruple, add, multiply, times-ω, times-√2, odd-sum, over-√2}
+use Rattle.exact.specs.Quadruples.{zero-quadruple, one-quadruple, add, multiply, conjugate, times-ω, times-√2, odd-sum, over-√2}
 use Rattle.exact.specs.States.{Same-amplitude, State, Same-amplitudes, some-odd-sum, In-normal-form, normal-form, All-fit, width}
-use Rattle.exact.specs.Squares.{square, add-squares, sum-of-squares, everywhere, elsewhere, outcome}
+use Rattle.exact.specs.Shares.{nearest}
+use Rattle.exact.specs.Squares.{square, square-quadruple, add-squares, sum-of-squares, everywhere, elsewhere, outcome}
 
 -- a list in index order is made of its elements, and is a table over the numbers below 2^n
 pub record Listing-laws {A : Type 0} (none : A) : Type 0 where
@@ -67,11 +68,24 @@ pub record Width-laws : Type 0 where
   pub holds : (v : List Quadruple) → All-fit (width v) v
   pub least : (v : List Quadruple) (w : ℕ) → 1 ≤ w → All-fit w v → width v ≤ w
 
--- sums of squares over sets of indices
+-- squares, and their sums over sets of indices
 pub record Square-laws : Type 0 where
+  -- the square is that of the modulus: a number times its conjugate
+  pub of-modulus : (q : Quadruple) → multiply q (conjugate q) ≡ square-quadruple (square q)
+  -- division by √2 halves
   pub halved : (n : ℕ) (p : Index → Bool) (v : List Quadruple) → some-odd-sum v ≡ false
       → sum-of-squares n p v ≡ add-squares (sum-of-squares n p (map over-√2 v)) (sum-of-squares n p (map over-√2 v))
+  -- the indices of a set and those outside it, and the two outcomes of a qubit, add up to all of them
   pub parted : (n : ℕ) (p : Index → Bool) (v : List Quadruple)
       → add-squares (sum-of-squares n p v) (sum-of-squares n (elsewhere p) v) ≡ sum-of-squares n everywhere v
   pub outcomes : (n q : ℕ) (v : List Quadruple)
       → add-squares (sum-of-squares n (outcome q false) v) (sum-of-squares n (outcome q true) v) ≡ sum-of-squares n everywhere v
+
+-- s is n / m to the nearest whole number, halves up: n / m is at least s − 1/2 and less than s + 1/2
+pub record Nearest (n m s : ℕ) : Type 0 where
+  pub not-above : 2 * (s * m) ≤ 2 * n + m
+  pub not-below : 2 * n < 2 * (s * m) + m
+
+pub record Share-laws : Type 0 where
+  pub rounded : (n m : ℕ) → 0 < m → Nearest n m (nearest n m)
+  pub only : (n m s : ℕ) → Nearest n m s → s ≡ nearest n m

@@ -27,6 +27,10 @@ multiply p q = quadruple
     (p .c *ℤ q .d +ℤ p .d *ℤ q .c -ℤ p .a *ℤ q .b -ℤ p .b *ℤ q .a)
     (p .d *ℤ q .d -ℤ p .a *ℤ q .c -ℤ p .b *ℤ q .b -ℤ p .c *ℤ q .a)
 
+-- the complex conjugate, by which ω becomes ω⁷ = −ω³
+abbrev pub conjugate : Quadruple → Quadruple
+conjugate q = quadruple (negℤ (q .c)) (negℤ (q .b)) (negℤ (q .a)) (q .d)
+
 -- times ω, once and k times
 abbrev pub times-ω : Quadruple → Quadruple
 times-ω q = quadruple (q .b) (q .c) (q .d) (negℤ (q .a))

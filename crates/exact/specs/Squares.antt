@@ -2,13 +2,13 @@
 use Prim.Native.Nat.{ℕ, _+_, _*_, _^_}
 use mathlib.Core.Bool.{Bool, true, cond, not, Bool·beq}
 use mathlib.Core.List.{List}
-use lib.IntN.{ℤ, pos, _+ℤ_, _-ℤ_, _*ℤ_, natAbs}
+use lib.IntN.{ℤ, pos, _+ℤ_, _-ℤ_, _*ℤ_, negℤ, natAbs}
 use Rattle.exact.specs.declared.Quadruple.{Quadruple}
 use Rattle.exact.specs.declared.RootTwoPower.{RootTwoPower}
 use Rattle.exact.specs.declared.TwoPower.{TwoPower}
 use Rattle.exact.specs.declared.Weight.{Weight}
 use Rattle.exact.specs.Indices.{Index, bit, at-index, total}
-use Rattle.exact.specs.Quadruples.{zero-quadruple}
+use Rattle.exact.specs.Quadruples.{quadruple, zero-quadruple}
 use Rattle.exact.specs.States.{State}
 
 -- the number whole + root · √2
@@ -25,6 +25,10 @@ square q = record {
   whole = squared (q .a) + squared (q .b) + squared (q .c) + squared (q .d);
   root = q .a *ℤ q .b +ℤ q .b *ℤ q .c +ℤ q .c *ℤ q .d -ℤ q .a *ℤ q .d;
 }
+
+-- as a quadruple, since √2 = ω − ω³
+abbrev pub square-quadruple : Square → Quadruple
+square-quadruple s = quadruple (negℤ (s .root)) (pos 0) (s .root) (pos (s .whole))
 
 abbrev pub no-square : Square
 no-square = record { whole = 0; root = pos 0 }

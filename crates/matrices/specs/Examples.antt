@@ -2,14 +2,16 @@
 use Prim.Native.Nat.{ℕ}
 use mathlib.Core.Path.{_≡_}
 use mathlib.Core.Bool.{Bool, true, false}
-use mathlib.Core.List.{List, [], _∷_, map}
+use mathlib.Core.List.{List, [], _∷_, _++_, map}
+use lib.Chars.{codes}
 use lib.IntN.{ℤ, pos, negsuc}
 use Rattle.exact.specs.declared.Quadruple.{Quadruple}
 use Rattle.exact.specs.declared.Weight.{Weight}
 use Rattle.exact.specs.Indices.{bits}
 use Rattle.exact.specs.Quadruples.{quadruple}
-use Rattle.exact.specs.States.{State, state, width}
+use Rattle.exact.specs.States.{State, state, amplitude-at, width}
 use Rattle.exact.specs.Squares.{outcome, weight}
+use Rattle.exact.specs.Texts.{amplitude-text, weight-text}
 use Rattle.gates.specs.declared.Gate.{Gate}
 use Rattle.gates.specs.declared.Gate.the-variants.{Z, H, T, Rx, Ry, Cx}
 use Rattle.matrices.specs.Registers.{Move, register}
@@ -18,9 +20,13 @@ use Rattle.matrices.specs.Registers.{Move, register}
 abbrev pub one-qubit : ℕ → List Gate → State
 one-qubit i gates = register 1 (bits 1 i) (map (λ g. record { gate = g; qubits = 0 ∷ [] }) gates)
 
--- two qubits, opened at i, and then cx with control 0 and target 1
-abbrev pub flipped : ℕ → State
-flipped i = register 2 (bits 2 i) (record { gate = Cx; qubits = 0 ∷ (1 ∷ []) } ∷ [])
+-- two qubits, opened at i and led through moves that end with cx, its control 0 and its target 1
+abbrev pub two-qubits : ℕ → List Move → State
+two-qubits i moves = register 2 (bits 2 i) (moves ++ (record { gate = Cx; qubits = 0 ∷ (1 ∷ []) } ∷ []))
+
+-- (|00⟩ + |11⟩)/√2
+abbrev pub bell-pair : State
+bell-pair = two-qubits 0 (record { gate = H; qubits = 0 ∷ [] } ∷ [])
 
 abbrev pub −1 : ℤ
 −1 = negsuc 0
@@ -50,4 +56,9 @@ pub record Examples : Type 0 where
   pub z-width : width (one-qubit 1 (Z ∷ []) .quadruples) ≡ 1
   pub rx : one-qubit 0 (Rx ∷ []) ≡ state 1 (𝟏 ∷ (quadruple (pos 0) −1 (pos 0) (pos 0) ∷ []))
   pub ry : one-qubit 1 (Ry ∷ []) ≡ state 1 (−𝟏 ∷ (𝟏 ∷ []))
-  pub cx : flipped 2 ≡ state 0 (𝟎 ∷ (𝟎 ∷ (𝟎 ∷ (𝟏 ∷ []))))
+  pub cx : two-qubits 2 [] ≡ state 0 (𝟎 ∷ (𝟎 ∷ (𝟎 ∷ (𝟏 ∷ []))))
+  pub bell : bell-pair ≡ state 1 (𝟏 ∷ (𝟎 ∷ (𝟎 ∷ (𝟏 ∷ []))))
+  -- as they are written
+  pub bell-amplitude : amplitude-text (amplitude-at bell-pair 3) ≡ codes "0 0 0 1 1"
+  pub bell-weight : weight-text (weight 2 (outcome 0 true) bell-pair) ≡ codes "1 0 1 500"
+  pub h-t-h-weight : weight-text (weight 1 (outcome 0 true) (one-qubit 0 (H ∷ (T ∷ (H ∷ []))))) ≡ codes "2 -1 2 -"

@@ -22,7 +22,7 @@ pub returns : need.returns
 returns c =
     let k : c .loop-power .-power ≡ c .args .high .power .0 = omega (arith, c .loop-power .kept .-power-end (c .pre)) in
     let i : times-power-of-√2 (c .args .high .power .0 - c .args .low .power .0) (c .loop-power .quadruple) ≡ c .args .high .quadruple =
-        ap (λ (m : ℕ). times-power-of-√2 (m - c .args .low .power .0) (c .loop-power .quadruple)) (sym k) ∙ c .loop-power .inv in
+    ap (λ (m : ℕ). times-power-of-√2 (m - c .args .low .power .0) (c .loop-power .quadruple)) (sym k) ∙ c .loop-power .inv in
     let d = equals (c .eq .result) (c .loop-power .quadruple) (c .args .low .quadruple) (c .eq .ensures) in (
       λ e. same-if (c .args .low) (c .args .high) (c .pre) (c .loop-power .quadruple) i (d .0 e),
       λ s. d .1 (same-only-if (c .args .low) (c .args .high) (c .pre) (c .loop-power .quadruple) i s),
