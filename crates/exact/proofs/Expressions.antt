@@ -1,12 +1,10 @@
 -- Quadruples of polynomial expressions: the formulas of quadruples, written over `Expr`, for the normaliser.
-use Prim.Native.Nat.{ℕ, suc, zero, _+_, _*_}
-use native.Mathlib.Omega.{arith}
-use mathlib.Core.Path.{_≡_, refl, sym, ap, ap₂, _∙_}
+use Prim.Native.Nat.{ℕ, _+_, _*_}
+use mathlib.Core.Path.{_≡_, refl, sym}
 use mathlib.Core.List.{List, [], _∷_}
-use lib.ListN.{getD}
-use lib.IntN.{ℤ, pos, negsuc, _+ℤ_, _-ℤ_, _*ℤ_, negℤ, natAbs}
+use lib.IntN.{ℤ, pos, negsuc, _+ℤ_, _*ℤ_}
 use Rattle.exact.specs.declared.Quadruple.{Quadruple}
-use Rattle.exact.specs.Quadruples.{quadruple, zero-quadruple, one-quadruple, add, multiply, times-ω, times-power-of-ω, times-√2}
+use Rattle.exact.specs.Quadruples.{quadruple, zero-quadruple, one-quadruple, add, multiply, times-ω, times-√2}
 use Rattle.exact.specs.Squares.{squared, square}
 use Rattle.exact.proofs.Ring.{Expr, var, num, plus, times, minus, eval, normal, solve}
 

@@ -3,17 +3,16 @@ use Prim.Native.Nat.{ℕ, suc, _+_, _-_, _/_, _%_, _^_, _<_}
 use native.Mathlib.Omega.{arith}
 use mathlib.Core.Path.{_≡_, refl, sym, ap, ap₂, subst, _∙_}
 use mathlib.Core.Bool.{Bool, true, false, cond}
-use lib.IntN.{ℤ, pos, negsuc, _+ℤ_, _-ℤ_, negℤ, natAbs, +ℤ-comm}
+use lib.IntN.{ℤ, pos, negsuc, _+ℤ_, _-ℤ_, negℤ, +ℤ-comm}
 use lib.Signed.{mag, quotZ, remZ}
 use mir.Syntax.{w32, w64}
 use mir.Val.{SFits, toZ, ofZ}
 use borrow.Author.Differences.{ints}
 use Rattle.std.proofs.shelf.Signed.{toZ-ofZ}
 use Rattle.std.proofs.shelf.Tests.{eqb-false, eq-eqb, ne-eqb, or-from}
-use Rattle.std.specs.declared.option.Option.{Option}
 use Rattle.std.specs.declared.option.Option.the-variants.{None, Some}
 use Rattle.exact.specs.declared.Quadruple.{Quadruple}
-use Rattle.exact.specs.Quadruples.{quadruple, half, odd, odd-sum, over-√2, division, half-sum}
+use Rattle.exact.specs.Quadruples.{quadruple, half, odd, over-√2, division, half-sum}
 use Rattle.exact.proofs.Integers.{range-from, range-to}
 use Rattle.exact.proofs.Expressions.{quadruple-path}
 use Rattle.exact.proofs.Division.{halves}

@@ -1,13 +1,11 @@
 -- Bits at several qubits, no two of them equal; and equal indices.
-use Prim.Native.Nat.{ℕ, suc, zero, _+_, _^_, _<_}
+use Prim.Native.Nat.{ℕ, suc, _+_, _^_, _<_}
 use native.Mathlib.Omega.{arith}
 use mathlib.Core.Path.{_≡_, refl, sym, ap, ap₂, subst, _∙_}
-use mathlib.Core.Bool.{Bool, true, false, cond, false≢true, true≢false}
+use mathlib.Core.Bool.{Bool, true, false, false≢true}
 use mathlib.Core.List.{List, [], _∷_}
-use lib.Dec.{eqb}
 use lib.ListN.{length, set, getD, length-set}
-use lib.Seq.{getD-set-same, getD-set-other, set-set, set-comm, set-getD}
-use Rattle.std.proofs.shelf.Tests.{eq-eqb, ne-eqb}
+use lib.Seq.{getD-set-same, getD-set-other, set-set, set-comm}
 use Rattle.exact.specs.Indices.{Index, number, bits-at, with-setting, same-index, Below, Not-among, Apart}
 
 pub length-setting : (x : Index) (qs : List ℕ) (s : Index) → length (with-setting x qs s) ≡ length x
@@ -49,11 +47,6 @@ setting-twice x (q ∷ qs) (b ∷ r) [] k e f = absurd (omega arith)
 setting-twice x (q ∷ qs) (b ∷ r) (c ∷ s) k e f =
     ap (λ (y : Index). with-setting y qs s) (set-setting (set x q b) q c qs r (k .0) ∙ ap (λ (y : Index). with-setting y qs r) (set-set x q b c))
     ∙ setting-twice (set x q c) qs r s (k .1) (omega arith) (omega arith)
-
-pub own-setting : (x : Index) (qs : List ℕ) → with-setting x qs (bits-at x qs) ≡ x
-unfolding with-setting bits-at
-own-setting x [] = refl
-own-setting x (q ∷ qs) = ap (λ (y : Index). with-setting y qs (bits-at x qs)) (set-getD x q false) ∙ own-setting x qs
 
 pub length-bits-at : (x : Index) (qs : List ℕ) → length (bits-at x qs) ≡ length qs
 unfolding bits-at
@@ -115,11 +108,3 @@ number-injective (true ∷ x) (true ∷ y) l e = ap (λ (z : Index). true ∷ z)
   where
     cancel : (m k i j : ℕ) → suc m ≡ suc k → 2 ^ m + i ≡ 2 ^ k + j → i ≡ j
     cancel m k i j l e = let f : 2 ^ m ≡ 2 ^ k = ap (λ (t : ℕ). 2 ^ t) (let g : m ≡ k = omega arith in g) in omega arith
-
--- indices are equal exactly if their numbers are
-pub same-number : (n : ℕ) (x y : Index) → length x ≡ n → length y ≡ n → eqb (number x) (number y) ≡ same-index x y
-same-number n x y l m = go (same-index x y) refl
-  where
-    go : (b : Bool) → same-index x y ≡ b → eqb (number x) (number y) ≡ b
-    go true e = eq-eqb (number x) (number y) (ap number (same-equal x y e))
-    go false e = ne-eqb (number x) (number y) (λ f. true≢false (sym (same-self x) ∙ ap (same-index x) (number-injective x y (l ∙ sym m) f) ∙ e))

@@ -10,7 +10,7 @@ use mathlib.Core.Bool.{Bool, true, false, _&&_}
 use mathlib.Core.List.{List, [], _∷_}
 use lib.ListN.{getD}
 use lib.Dec.{leb, ltb, eqb, T, eqb→eq}
-use lib.IntN.{ℤ, pos, negsuc, _+ℤ_, _-ℤ_, _*ℤ_, negℤ, +ℤ-idl, +ℤ-idr, zero-*ℤ, *ℤ-comm, *ℤ-one, +ℤ-assoc}
+use lib.IntN.{ℤ, pos, negsuc, _+ℤ_, _*ℤ_, negℤ, +ℤ-idl, +ℤ-idr, zero-*ℤ, *ℤ-comm, +ℤ-assoc}
 use borrow.Author.Differences.{ints}
 use Rattle.exact.proofs.Integers.{distrib-right, times-assoc}
 

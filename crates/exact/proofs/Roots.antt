@@ -1,17 +1,17 @@
 -- Times √2, and the same amplitude.
-use Prim.Native.Nat.{ℕ, suc, zero, _+_, _-_, _≤_, _<_}
+use Prim.Native.Nat.{ℕ, suc, zero, _+_, _-_, _≤_}
 use native.Mathlib.Omega.{arith}
-use mathlib.Core.Path.{_≡_, refl, sym, ap, ap₂, subst, _∙_}
+use mathlib.Core.Path.{_≡_, refl, sym, ap, ap₂, _∙_}
 use mathlib.Core.List.{List, [], _∷_}
 use lib.IntN.{ℤ, pos, _+ℤ_, _-ℤ_, negℤ, natAbs}
 use borrow.Author.Differences.{ints}
 use Rattle.exact.specs.declared.Amplitude.{Amplitude}
 use Rattle.exact.specs.declared.Quadruple.{Quadruple}
-use Rattle.exact.specs.Quadruples.{quadruple, one-quadruple, add, multiply, conjugate, times-ω, times-√2, times-power-of-√2}
+use Rattle.exact.specs.Quadruples.{quadruple, one-quadruple, multiply, conjugate, times-ω, times-√2, times-power-of-√2}
 use Rattle.exact.specs.States.{amplitude, Same-amplitude}
 use Rattle.exact.specs.Squares.{Square, square, square-quadruple, add-squares}
 use Rattle.exact.proofs.Ring.{num, plus, minus, eval, normal, solve}
-use Rattle.exact.proofs.Expressions.{quadruple-path, four, vars, multiply-expr, conjugate-expr, whole-expr, root-expr, times-√2-expr, parts, eval-quadruple, solve-quadruple, whole-is, root-is, one-times, ω-times, √2-times}
+use Rattle.exact.proofs.Expressions.{quadruple-path, four, vars, multiply-expr, conjugate-expr, whole-expr, root-expr, times-√2-expr, parts, eval-quadruple, solve-quadruple, whole-is, one-times, ω-times, √2-times}
 
 pub by-ω : (q : Quadruple) → times-ω q ≡ multiply (times-ω one-quadruple) q
 by-ω q = sym (ω-times one-quadruple q ∙ ap times-ω (one-times q))

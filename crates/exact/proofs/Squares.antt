@@ -1,11 +1,11 @@
 -- Sums of squares over sets of indices.
 use Prim.Native.Nat.{ℕ, _+_}
 use native.Mathlib.Omega.{arith}
-use mathlib.Core.Path.{_≡_, refl, sym, ap, ap₂, _∙_}
+use mathlib.Core.Path.{_≡_, refl, sym, ap, _∙_}
 use mathlib.Core.Bool.{Bool, true, false, cond, not, Bool·beq}
 use mathlib.Core.List.{List, map}
-use lib.ListN.{getD, List·getD-map}
-use lib.IntN.{ℤ, _+ℤ_, +ℤ-idl, +ℤ-idr, +ℤ-assoc, +ℤ-comm}
+use lib.ListN.{List·getD-map}
+use lib.IntN.{_+ℤ_, +ℤ-idl, +ℤ-assoc, +ℤ-comm}
 use Rattle.exact.specs.declared.Quadruple.{Quadruple}
 use Rattle.exact.specs.Indices.{Index, number, bit, total, at-index}
 use Rattle.exact.specs.Quadruples.{zero-quadruple, times-√2, over-√2}

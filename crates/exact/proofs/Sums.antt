@@ -5,7 +5,7 @@ use mathlib.Core.Path.{_≡_, refl, sym, ap, ap₂, _∙_}
 use mathlib.Core.Bool.{true, false, cond}
 use mathlib.Core.List.{List, [], _∷_}
 use lib.ListN.{length, set}
-use lib.IntN.{ℤ, pos, _+ℤ_, +ℤ-idl, +ℤ-assoc, +ℤ-comm}
+use lib.IntN.{pos, _+ℤ_, +ℤ-idl, +ℤ-assoc, +ℤ-comm}
 use Rattle.exact.specs.Indices.{Index, total, with-setting, Below, same-index}
 use Rattle.exact.specs.Quadruples.{add, zero-quadruple}
 use Rattle.exact.proofs.Expressions.{quadruple-path}

@@ -1,16 +1,16 @@
 -- The width holds every entry, and no smaller one does.
-use Prim.Native.Nat.{ℕ, suc, zero, _+_, _-_, _/_, _^_, _<_, _≤_, max}
+use Prim.Native.Nat.{ℕ, suc, zero, _+_, _-_, _/_, _^_, _<_, _≤_}
 use native.Mathlib.Omega.{arith}
 use mathlib.Core.Path.{_≡_}
 use mathlib.Core.List.{List, [], _∷_}
 use lib.Dec.{eqb}
-use lib.Pow.{pow-mono, pow-pos}
-use lib.IntN.{ℤ, pos, negℤ}
-use lib.Signed.{mag, _≤ℤ_, _<ℤ_}
+use lib.Pow.{pow-mono}
+use lib.IntN.{ℤ}
+use lib.Signed.{mag}
 use Rattle.std.proofs.shelf.Tests.{eqb-true, eqb-false, cond-both}
 use Rattle.exact.specs.declared.Quadruple.{Quadruple}
 use Rattle.exact.proofs.Integers.{range-from, range-to}
-use Rattle.exact.specs.States.{bits-within, width-of, width, Entry-fits, All-four-fit, All-fit}
+use Rattle.exact.specs.States.{bits-within, width-of, width, Entry-fits, All-fit}
 
 -- ---- bits of a natural number
 bits-enough : (f n : ℕ) → n ≤ f → n < 2 ^ bits-within f n

@@ -5,7 +5,6 @@ use mathlib.Core.Bool.{Bool, true, false}
 use mathlib.Core.List.{List, map}
 use lib.Dec.{eqb}
 use lib.ListN.{length}
-use lib.IntN.{pos}
 use Rattle.std.specs.Iters.{counting}
 use Rattle.exact.specs.declared.Amplitude.{Amplitude}
 use Rattle.exact.specs.declared.Quadruple.{Quadruple}

@@ -1,7 +1,6 @@
 -- The share of a weight.
-use Prim.Native.Nat.{ℕ, suc, _+_, _*_, _/_, _^_}
-use mathlib.Core.Bool.{Bool, true, false, cond}
-use lib.IntN.{ℤ, pos, negsuc}
+use Prim.Native.Nat.{ℕ, _+_, _*_, _/_, _^_}
+use mathlib.Core.Bool.{cond}
 use lib.Dec.{eqb}
 use lib.IntN.{natAbs}
 use Rattle.std.specs.declared.option.Option.{Option}

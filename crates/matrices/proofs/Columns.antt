@@ -1,6 +1,6 @@
 -- A column of a product of gates' matrices is the gates applied one after the other to a basis state.
 use Prim.Native.Nat.{ℕ, suc, zero, _+_}
-use mathlib.Core.Path.{_≡_, refl, sym, ap, ap₂, subst, _∙_}
+use mathlib.Core.Path.{_≡_, refl, sym, ap, subst, _∙_}
 use mathlib.Core.Bool.{Bool, true, false, cond}
 use mathlib.Core.List.{List, [], _∷_}
 use lib.ListN.{length}

@@ -16,7 +16,7 @@ use Rattle.exact.proofs.Listings.{at-listing}
 use Rattle.gates.specs.declared.Gate.{Gate}
 use Rattle.gates.specs.Arity.{qubits-of}
 use Rattle.matrices.specs.Gates.{Entry, nought, ω-to, times-entry, entry, power-of}
-use Rattle.matrices.proofs.Small.{whole-part, root-part, small, Multiplies-part, Multiplies, times-power-expr, times-entry-expr, small-expr, after, before}
+use Rattle.matrices.proofs.Small.{whole-part, root-part, small, Multiplies, times-power-expr, times-entry-expr, small-expr, after, before}
 
 eval-power : (ρ : List ℤ) (k : ℕ) (e : Quadruple-expr) → eval-quadruple ρ (times-power-expr k e) ≡ times-power-of-ω k (eval-quadruple ρ e)
 unfolding eval-quadruple eval

@@ -7,15 +7,14 @@ use lib.ListN.{length}
 use lib.IntN.{ℤ, pos, _+ℤ_, _*ℤ_, natAbs}
 use borrow.Author.Differences.{ints}
 use Rattle.exact.specs.declared.Quadruple.{Quadruple}
-use Rattle.exact.specs.Indices.{Index, total, listing, at-index, bits-at, with-setting, Below}
+use Rattle.exact.specs.Indices.{Index, total, listing, bits-at, with-setting, Below}
 use Rattle.exact.specs.Quadruples.{zero-quadruple, add}
-use Rattle.exact.specs.Squares.{Square, square, add-squares, times-power-of-2, quadruple-at, sum-of-squares, everywhere}
+use Rattle.exact.specs.Squares.{square, add-squares, times-power-of-2, quadruple-at, sum-of-squares, everywhere}
 use Rattle.exact.proofs.Integers.{distrib-right}
 use Rattle.exact.proofs.Sums.{doubled, total-same, total-map, total-doubled, doubled-swap, all-settings, integers}
 use Rattle.exact.proofs.Indices.{read-setting, setting-twice}
 use Rattle.exact.proofs.Listings.{at-listing}
 use Rattle.exact.proofs.Roots.{square-path}
-use Rattle.gates.specs.declared.Gate.{Gate}
 use Rattle.gates.specs.Arity.{qubits-of}
 use Rattle.matrices.specs.Gates.{entry, times-entry, power-of}
 use Rattle.matrices.specs.Registers.{Move, new-at, applied, Move-placed}

@@ -1,10 +1,10 @@
 -- Registers have the amplitudes of a column of the product, and equal products give equal registers.
-use Prim.Native.Nat.{ℕ, suc, zero, _+_, _^_, _<_}
+use Prim.Native.Nat.{ℕ, suc, zero, _^_, _<_}
 use mathlib.Core.Path.{_≡_, refl, sym, ap, subst, subst₂, _∙_}
 use mathlib.Core.Bool.{cond}
 use mathlib.Core.List.{List, [], _∷_}
 use mathlib.Core.Logic.{inl}
-use lib.ListN.{length, getD}
+use lib.ListN.{length}
 use Rattle.exact.specs.declared.Quadruple.{Quadruple}
 use Rattle.exact.specs.Indices.{Index, number, bits, listing, at-index, bits-at, with-setting, same-index}
 use Rattle.exact.specs.Quadruples.{zero-quadruple, one-quadruple, add, times-ω, times-power-of-ω, times-√2, times-power-of-√2}

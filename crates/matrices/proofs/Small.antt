@@ -1,8 +1,6 @@
 -- A gate on the 2^m quadruples of its own qubits, as quadruples and as polynomial expressions: variable 4i + j is part j of quadruple i.
 use Prim.Native.Nat.{ℕ, suc, zero, _+_, _*_}
 use mathlib.Core.Path.{_≡_}
-use mathlib.Core.Bool.{Bool}
-use mathlib.Core.List.{List}
 use lib.IntN.{ℤ, pos, _+ℤ_}
 use Rattle.exact.specs.declared.Quadruple.{Quadruple}
 use Rattle.exact.specs.Indices.{Index, number, total}

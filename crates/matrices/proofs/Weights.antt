@@ -10,7 +10,7 @@ use lib.IntN.{ℤ, pos, _+ℤ_, _*ℤ_, *ℤ-zero}
 use borrow.Author.Differences.{ints}
 use Rattle.std.proofs.shelf.Tests.{cond-both}
 use Rattle.exact.specs.declared.Quadruple.{Quadruple}
-use Rattle.exact.specs.Indices.{Index, total, listing, same-index}
+use Rattle.exact.specs.Indices.{Index, same-index}
 use Rattle.exact.specs.Quadruples.{zero-quadruple, one-quadruple, over-√2}
 use Rattle.exact.specs.States.{State, state, some-odd-sum, reduced, normal-form}
 use Rattle.exact.specs.Squares.{Square, square, no-square, add-squares, times-power-of-2, sum-of-squares, everywhere, outcome}
@@ -20,7 +20,7 @@ use Rattle.exact.proofs.Roots.{square-path}
 use Rattle.exact.proofs.Squares.{squares, halved}
 use Rattle.exact.proofs.Squares as exact-squares
 use Rattle.matrices.specs.Gates.{power-of}
-use Rattle.matrices.specs.Registers.{Move, applied, moved, opened, led, register, Move-placed, All-placed}
+use Rattle.matrices.specs.Registers.{Move, moved, opened, led, register, Move-placed, All-placed}
 use Rattle.matrices.specs.Laws.{whole-of}
 use Rattle.matrices.proofs.Multiplied.{squares-listing, multiplies}
 

@@ -1,7 +1,7 @@
 -- Worked examples, as one table.
 use Prim.Native.Nat.{ℕ}
 use mathlib.Core.Path.{_≡_}
-use mathlib.Core.Bool.{Bool, true, false}
+use mathlib.Core.Bool.{true, false}
 use mathlib.Core.List.{List, [], _∷_, _++_, map}
 use lib.Chars.{codes}
 use lib.IntN.{ℤ, pos, negsuc}

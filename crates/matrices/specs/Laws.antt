@@ -8,7 +8,7 @@ use lib.IntN.{pos}
 use Rattle.exact.specs.declared.Quadruple.{Quadruple}
 use Rattle.exact.specs.declared.RootTwoPower.{RootTwoPower}
 use Rattle.exact.specs.Indices.{Index}
-use Rattle.exact.specs.States.{State, Same-amplitudes, In-normal-form}
+use Rattle.exact.specs.States.{Same-amplitudes, In-normal-form}
 use Rattle.exact.specs.Squares.{Square, add-squares, times-power-of-2, sum-of-squares, everywhere, outcome}
 use Rattle.gates.specs.declared.Gate.{Gate}
 use Rattle.gates.specs.Arity.{qubits-of}

@@ -1,5 +1,3 @@
-use mir.Syntax.{w32}
-use mir.Val.{SFits}
 use borrow.Author.Needs.{needs}
 use Rattle.exact.proofs.Halves.{lower-fits, upper-fits, both-even}
 use Rattle.exact.proofs.Quadruple.over_root_two.Needs as need

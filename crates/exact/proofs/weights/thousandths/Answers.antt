@@ -1,5 +1,4 @@
 use native.Mathlib.Omega.{arith}
-use Prim.Native.Nat.{_<_, _^_}
 use Rattle.exact.proofs.Shares.{too-small, unit-range, quotient}
 use Rattle.exact.proofs.weights.thousandths.Needs as need
 
