@@ -36,9 +36,16 @@ no-square = record { whole = 0; root = pos 0 }
 abbrev pub add-squares : Square → Square → Square
 add-squares s t = record { whole = s .whole + t .whole; root = s .root +ℤ t .root }
 
--- 2^e times a square
-abbrev pub times-power-of-2 : ℕ → Square → Square
-times-power-of-2 e s = record { whole = 2 ^ e * s .whole; root = pos (2 ^ e) *ℤ s .root }
+-- the squares of numbers divided k times by √2 are divided k times by 2
+abbrev pub power-of-squares : RootTwoPower → TwoPower
+power-of-squares k = record { 0 = k .0 }
+
+-- 2^k, and 2^k times a square
+abbrev pub power-of-2 : TwoPower → Square
+power-of-2 k = record { whole = 2 ^ (k .0); root = pos 0 }
+
+abbrev pub times-power-of-2 : TwoPower → Square → Square
+times-power-of-2 k s = record { whole = 2 ^ (k .0) * s .whole; root = pos (2 ^ (k .0)) *ℤ s .root }
 
 -- the quadruple at an index
 abbrev pub quadruple-at : List Quadruple → Index → Quadruple
@@ -57,10 +64,6 @@ elsewhere p x = not (p x)
 -- qubit q has the outcome b
 abbrev pub outcome : ℕ → Bool → Index → Bool
 outcome q b x = Bool·beq (bit x q) b
-
--- the squares of numbers divided k times by √2 are divided k times by 2
-abbrev pub power-of-squares : RootTwoPower → TwoPower
-power-of-squares k = record { 0 = k .0 }
 
 -- the weight of a set of indices
 abbrev pub weight : ℕ → (Index → Bool) → State → Weight

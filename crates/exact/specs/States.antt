@@ -1,5 +1,5 @@
 -- Amplitudes, and states: a list of quadruples with one power of √2, which divides them all.
-use Prim.Native.Nat.{ℕ, zero, suc, _-_, _^_, _<_, max, _/_}
+use Prim.Native.Nat.{ℕ, zero, suc, _+_, _-_, _^_, _<_, max, _/_}
 use mathlib.Core.Path.{_≡_}
 use mathlib.Core.Bool.{Bool, true, false, cond, _||_}
 use mathlib.Core.List.{List, [], _∷_, map}
@@ -13,12 +13,19 @@ use Rattle.exact.specs.declared.Quadruple.{Quadruple}
 use Rattle.exact.specs.declared.RootTwoPower.{RootTwoPower}
 use Rattle.exact.specs.Quadruples.{zero-quadruple, times-power-of-√2, odd-sum, over-√2}
 
+abbrev pub root-two-power : ℕ → RootTwoPower
+root-two-power k = record { 0 = k }
+
+-- powers of the factors of a product
+abbrev pub add-powers : RootTwoPower → RootTwoPower → RootTwoPower
+add-powers j k = root-two-power (j .0 + k .0)
+
 -- q divided k times by √2
 abbrev pub amplitude : Quadruple → ℕ → Amplitude
-amplitude q k = record { quadruple = q; power = record { 0 = k } }
+amplitude q k = record { quadruple = q; power = root-two-power k }
 
--- The one of lower power, times √2 as often as the powers differ, has the other's quadruple. (The difference of two
--- powers is 0 where the first is the lower one.)
+-- Two amplitudes are the same number: the one of lower power, times √2 as often as the powers differ, has the other's
+-- quadruple. (The difference of two powers is 0 where the first is the lower one.)
 unfoldable pub Same-amplitude : Amplitude → Amplitude → Type 0
 Same-amplitude x y = times-power-of-√2 (y .power .0 - x .power .0) (x .quadruple) ≡ times-power-of-√2 (x .power .0 - y .power .0) (y .quadruple)
 
@@ -27,7 +34,7 @@ pub record State : Type 0 where
   pub quadruples : List Quadruple
 
 abbrev pub state : ℕ → List Quadruple → State
-state k v = record { power = record { 0 = k }; quadruples = v }
+state k v = record { power = root-two-power k; quadruples = v }
 
 -- the amplitude at the index with the number i
 abbrev pub amplitude-at : State → ℕ → Amplitude

@@ -1,5 +1,5 @@
 -- A column of a product of gates' matrices is the gates applied one after the other to a basis state.
-use Prim.Native.Nat.{ℕ, suc, zero, _+_}
+use Prim.Native.Nat.{ℕ, suc, zero}
 use mathlib.Core.Path.{_≡_, refl, sym, ap, subst, _∙_}
 use mathlib.Core.Bool.{Bool, true, false, cond}
 use mathlib.Core.List.{List, [], _∷_}
@@ -7,7 +7,7 @@ use lib.ListN.{length}
 use Rattle.exact.specs.declared.Quadruple.{Quadruple}
 use Rattle.exact.specs.Indices.{Index, total, listing, bits-at, with-setting, same-index, Below, Placed}
 use Rattle.exact.specs.Quadruples.{zero-quadruple, one-quadruple, add, multiply, times-ω, times-power-of-ω}
-use Rattle.exact.specs.States.{State, state}
+use Rattle.exact.specs.States.{add-powers, State}
 use Rattle.exact.specs.Squares.{quadruple-at}
 use Rattle.exact.proofs.Expressions.{one-times, zero-times, ω-times}
 use Rattle.exact.proofs.Sums.{Adds, total-same, total-swap, total-picked, quadruples}
@@ -82,7 +82,7 @@ new-same n m f h r l e =
 column-step : (n : ℕ) (m : Move) (B : Matrix) (c : Index) → Move-placed n m → column n (product n (matrix-of m) B) c ≡ moved n m (column n B c)
 unfolding column product moved applied matrix-of
 column-step n m B c p =
-    ap (state (power-of (m .gate) + B .power))
+    ap (λ (v : List Quadruple). record { power = add-powers (power-of (m .gate)) (B .power); quadruples = v })
     (listing-same n (λ r. total add n (λ k. multiply (matrix-of m .entry r k) (B .entry k c))) (new-at m (quadruple-at (listing n (λ r. B .entry r c))))
     (λ r l. full-sum n m (λ k. B .entry k c) r p l
     ∙ new-same n m (λ k. B .entry k c) (quadruple-at (listing n (λ k. B .entry k c))) r l (λ x h. sym (at-listing zero-quadruple n (λ k. B .entry k c) x h))))

@@ -83,14 +83,14 @@ module _ (g : Gate) (u : Index → Quadruple) where
 
   -- for a part of the square: its formula over integers and over expressions
   module _ (part : Quadruple → ℤ) (expr : Quadruple-expr → Expr) (is : (ρ : List ℤ) (e : Quadruple-expr) → eval ρ (expr e) ≡ part (eval-quadruple ρ e)) where
-    part-computed : normal (after expr g) ≡ normal (before expr g) → total _+ℤ_ (qubits-of g) (λ r. part (small g u r)) ≡ doubled _+ℤ_ (power-of g) (total _+ℤ_ (qubits-of g) (λ s. part (u s)))
+    part-computed : normal (after expr g) ≡ normal (before expr g) → total _+ℤ_ (qubits-of g) (λ r. part (small g u r)) ≡ doubled _+ℤ_ (power-of g .0) (total _+ℤ_ (qubits-of g) (λ s. part (u s)))
     part-computed h =
         let ρ : List ℤ = parts (listing (qubits-of g) u) in
         sym (eval-total ρ (qubits-of g) (λ r. expr (small-expr g r))
         ∙ total-same _+ℤ_ (qubits-of g) (λ r. eval ρ (expr (small-expr g r))) (λ r. part (small g u r)) (λ r l. is ρ (small-expr g r) ∙ ap part (small-at r)))
         ∙ solve ρ (after expr g) (before expr g) h
-        ∙ eval-doubled ρ (power-of g) (total plus (qubits-of g) (λ s. expr (vars (4 * number s))))
-        ∙ ap (doubled _+ℤ_ (power-of g)) (eval-total ρ (qubits-of g) (λ s. expr (vars (4 * number s)))
+        ∙ eval-doubled ρ (power-of g .0) (total plus (qubits-of g) (λ s. expr (vars (4 * number s))))
+        ∙ ap (doubled _+ℤ_ (power-of g .0)) (eval-total ρ (qubits-of g) (λ s. expr (vars (4 * number s)))
         ∙ total-same _+ℤ_ (qubits-of g) (λ s. eval ρ (expr (vars (4 * number s)))) (λ s. part (u s)) (λ s l. is ρ (vars (4 * number s)) ∙ ap part (vars-at s l)))
 
 pub computed : (g : Gate) → normal (after whole-expr g) ≡ normal (before whole-expr g) → normal (after root-expr g) ≡ normal (before root-expr g) → Multiplies g

@@ -9,7 +9,7 @@ use borrow.Author.Differences.{ints}
 use Rattle.exact.specs.declared.Quadruple.{Quadruple}
 use Rattle.exact.specs.Indices.{Index, total, listing, bits-at, with-setting, Below}
 use Rattle.exact.specs.Quadruples.{zero-quadruple, add}
-use Rattle.exact.specs.Squares.{square, add-squares, times-power-of-2, quadruple-at, sum-of-squares, everywhere}
+use Rattle.exact.specs.Squares.{square, add-squares, power-of-squares, times-power-of-2, quadruple-at, sum-of-squares, everywhere}
 use Rattle.exact.proofs.Integers.{distrib-right}
 use Rattle.exact.proofs.Sums.{doubled, total-same, total-map, total-doubled, doubled-swap, all-settings, integers}
 use Rattle.exact.proofs.Indices.{read-setting, setting-twice}
@@ -53,11 +53,11 @@ new-small n m f x r p l e =
 -- Both sides 2^m times over: every index is then counted once for each setting of the gate's qubits.
 module _ (part : Quadruple → ℤ) (m : Move) (keeps : Multiplies-part (m .gate) part) where
   part-multiplied : (n : ℕ) (f : Index → Quadruple) → Move-placed n m
-      → total _+ℤ_ n (λ x. part (new-at m f x)) ≡ pos (2 ^ power-of (m .gate)) *ℤ total _+ℤ_ n (λ x. part (f x))
+      → total _+ℤ_ n (λ x. part (new-at m f x)) ≡ pos (2 ^ (power-of (m .gate) .0)) *ℤ total _+ℤ_ n (λ x. part (f x))
   part-multiplied n f p =
       let qs : List ℕ = m .qubits in
       let k : ℕ = qubits-of (m .gate) in
-      let e : ℕ = power-of (m .gate) in
+      let e : ℕ = power-of (m .gate) .0 in
       let sum : (ℕ → (Index → ℤ) → ℤ) = total _+ℤ_ in
       doubled-injective k (sum n (λ x. part (new-at m f x))) (doubled _+ℤ_ e (sum n (λ x. part (f x))))
       (sym (settings (λ x. part (new-at m f x)))
@@ -80,9 +80,9 @@ pub root-sum : (n : ℕ) (f : Index → Quadruple) → total add-squares n (λ x
 root-sum n f = total-map add-squares _+ℤ_ (λ s. s .root) (λ s t. refl) n (λ x. square (f x))
 
 squares-multiplied : (n : ℕ) (m : Move) (f : Index → Quadruple) → Move-placed n m
-    → total add-squares n (λ x. square (new-at m f x)) ≡ times-power-of-2 (power-of (m .gate)) (total add-squares n (λ x. square (f x)))
+    → total add-squares n (λ x. square (new-at m f x)) ≡ times-power-of-2 (power-of-squares (power-of (m .gate))) (total add-squares n (λ x. square (f x)))
 squares-multiplied n m f p =
-    let e : ℤ = pos (2 ^ power-of (m .gate)) in
+    let e : ℤ = pos (2 ^ (power-of (m .gate) .0)) in
     square-path
     (ap natAbs (whole-sum n (new-at m f) ∙ part-multiplied whole-part m (kept (m .gate) .whole) n f p ∙ ap (λ (t : ℤ). e *ℤ t) (sym (whole-sum n f))))
     (root-sum n (new-at m f) ∙ part-multiplied root-part m (kept (m .gate) .root) n f p ∙ ap (λ (t : ℤ). e *ℤ t) (sym (root-sum n f)))
@@ -93,6 +93,6 @@ unfolding sum-of-squares
 squares-listing n f = total-same add-squares n (λ x. square (quadruple-at (listing n f) x)) (λ x. square (f x)) (λ x l. ap square (at-listing zero-quadruple n f x l))
 
 pub multiplies : (n : ℕ) (m : Move) (v : List Quadruple) → Move-placed n m
-    → sum-of-squares n everywhere (applied n m v) ≡ times-power-of-2 (power-of (m .gate)) (sum-of-squares n everywhere v)
+    → sum-of-squares n everywhere (applied n m v) ≡ times-power-of-2 (power-of-squares (power-of (m .gate))) (sum-of-squares n everywhere v)
 unfolding sum-of-squares applied
 multiplies n m v p = squares-listing n (new-at m (quadruple-at v)) ∙ squares-multiplied n m (quadruple-at v) p

@@ -87,7 +87,7 @@ moved-same n m s t l h = by-numbers n (moved n m s) (moved n m t) (length-moved 
         ∙ sym (new-powers (s .power .0) m g x)
 
     each : (x : Index) → length x ≡ n → Same-at (moved n m s) (moved n m t) x
-    each x e = uncrossed (quadruple-at (listing n (new-at m f)) x) (quadruple-at (listing n (new-at m g)) x) (power-of (m .gate)) (s .power .0) (t .power .0)
+    each x e = uncrossed (quadruple-at (listing n (new-at m f)) x) (quadruple-at (listing n (new-at m g)) x) (power-of (m .gate) .0) (s .power .0) (t .power .0)
         (ap (times-power-of-√2 (t .power .0)) (at-listing zero-quadruple n (new-at m f) x e) ∙ new x e ∙ ap (times-power-of-√2 (s .power .0)) (sym (at-listing zero-quadruple n (new-at m g) x e)))
 
 -- ---- registers
@@ -124,7 +124,7 @@ normal n x l = led-normal n l (opened n x) (opened-normal n x)
 columns-same : (n : ℕ) (x : Index) (l m : List Move) → length x ≡ n → Same-matrix n (product-of n l) (product-of n m) → Same-amplitudes (column n (product-of n l) x) (column n (product-of n m) x)
 unfolding column
 columns-same n x l m e h = by-numbers n (column n (product-of n l) x) (column n (product-of n m) x) (length-listing n (λ r. product-of n l .entry r x)) (length-listing n (λ r. product-of n m .entry r x))
-    (λ r k. subst₂ (λ (p q : Quadruple). Same-amplitude (amplitude p (product-of n l .power)) (amplitude q (product-of n m .power))) (sym (at-listing zero-quadruple n (λ y. product-of n l .entry y x) r k)) (sym (at-listing zero-quadruple n (λ y. product-of n m .entry y x) r k)) (h r x k e))
+    (λ r k. subst₂ (λ (p q : Quadruple). Same-amplitude (amplitude p (product-of n l .power .0)) (amplitude q (product-of n m .power .0))) (sym (at-listing zero-quadruple n (λ y. product-of n l .entry y x) r k)) (sym (at-listing zero-quadruple n (λ y. product-of n m .entry y x) r k)) (h r x k e))
 
 pub equal : (n : ℕ) (x : Index) (l m : List Move) → length x ≡ n → All-placed n l → All-placed n m → Same-matrix n (product-of n l) (product-of n m) → register n x l ≡ register n x m
 equal n x l m e p q h =

@@ -25,7 +25,7 @@ small g u r = total add (qubits-of g) (λ s. times-entry (entry g r s) (u s))
 
 -- the gate multiplies the sum of a part of the squares by 2 to the power of its factor
 abbrev pub Multiplies-part : Gate → (Quadruple → ℤ) → Type 0
-Multiplies-part g part = (u : Index → Quadruple) → total _+ℤ_ (qubits-of g) (λ r. part (small g u r)) ≡ doubled _+ℤ_ (power-of g) (total _+ℤ_ (qubits-of g) (λ s. part (u s)))
+Multiplies-part g part = (u : Index → Quadruple) → total _+ℤ_ (qubits-of g) (λ r. part (small g u r)) ≡ doubled _+ℤ_ (power-of g .0) (total _+ℤ_ (qubits-of g) (λ s. part (u s)))
 
 pub record Multiplies (g : Gate) : Type 0 where
   pub whole : Multiplies-part g whole-part
@@ -48,4 +48,4 @@ abbrev pub after : (Quadruple-expr → Expr) → Gate → Expr
 after part g = total plus (qubits-of g) (λ r. part (small-expr g r))
 
 abbrev pub before : (Quadruple-expr → Expr) → Gate → Expr
-before part g = doubled plus (power-of g) (total plus (qubits-of g) (λ s. part (vars (4 * number s))))
+before part g = doubled plus (power-of g .0) (total plus (qubits-of g) (λ s. part (vars (4 * number s))))

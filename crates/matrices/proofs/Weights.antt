@@ -13,7 +13,7 @@ use Rattle.exact.specs.declared.Quadruple.{Quadruple}
 use Rattle.exact.specs.Indices.{Index, same-index}
 use Rattle.exact.specs.Quadruples.{zero-quadruple, one-quadruple, over-√2}
 use Rattle.exact.specs.States.{State, state, some-odd-sum, reduced, normal-form}
-use Rattle.exact.specs.Squares.{Square, square, no-square, add-squares, times-power-of-2, sum-of-squares, everywhere, outcome}
+use Rattle.exact.specs.Squares.{Square, square, no-square, add-squares, power-of-squares, times-power-of-2, sum-of-squares, everywhere, outcome}
 use Rattle.exact.proofs.Sums.{total-same, total-picked}
 use Rattle.exact.proofs.Indices.{same-swap}
 use Rattle.exact.proofs.Roots.{square-path}
@@ -21,12 +21,12 @@ use Rattle.exact.proofs.Squares.{squares, halved}
 use Rattle.exact.proofs.Squares as exact-squares
 use Rattle.matrices.specs.Gates.{power-of}
 use Rattle.matrices.specs.Registers.{Move, moved, opened, led, register, Move-placed, All-placed}
-use Rattle.matrices.specs.Laws.{whole-of}
+use Rattle.matrices.specs.Laws.{unit-total}
 use Rattle.matrices.proofs.Multiplied.{squares-listing, multiplies}
 
 -- the sum of the squares of a state is 2^k and 0
 abbrev Whole : ℕ → State → Type 0
-Whole n s = sum-of-squares n everywhere (s .quadruples) ≡ whole-of (s .power)
+Whole n s = sum-of-squares n everywhere (s .quadruples) ≡ unit-total s
 
 abbrev one-square : Square
 one-square = record { whole = 1; root = pos 0 }
@@ -49,8 +49,8 @@ moved-whole : (n : ℕ) (m : Move) (s : State) → Move-placed n m → Whole n s
 unfolding moved
 moved-whole n m s p h =
     multiplies n m (s .quadruples) p
-    ∙ ap (times-power-of-2 (power-of (m .gate))) h
-    ∙ square-path (sym (pow-add 2 (power-of (m .gate)) (s .power .0))) (*ℤ-zero (pos (2 ^ power-of (m .gate))))
+    ∙ ap (times-power-of-2 (power-of-squares (power-of (m .gate)))) h
+    ∙ square-path (sym (pow-add 2 (power-of (m .gate) .0) (s .power .0))) (*ℤ-zero (pos (2 ^ (power-of (m .gate) .0))))
 
 half-whole : (k : ℕ) (t : Square) → record { whole = 2 ^ suc k; root = pos 0 } ≡ add-squares t t → t ≡ record { whole = 2 ^ k; root = pos 0 }
 half-whole k t e = square-path (half-of (2 ^ suc k) (2 ^ k) (t .whole) (let d : 2 ^ suc k ≡ 2 ^ k + 2 ^ k = omega arith in d) (ap (λ (s : Square). s .whole) e)) (none (t .root) (ap (λ (s : Square). s .root) e))
@@ -72,9 +72,9 @@ unfolding led
 led-whole n [] s p h = h
 led-whole n (m ∷ l) s p h = led-whole n l (normal-form (moved n m s)) (p .1) (reduced-whole n (moved n m s .power .0) (moved n m s .quadruples) (moved-whole n m s (p .0) h))
 
-pub everything : (n : ℕ) (x : Index) (l : List Move) → length x ≡ n → All-placed n l → sum-of-squares n everywhere (register n x l .quadruples) ≡ whole-of (register n x l .power)
+pub everything : (n : ℕ) (x : Index) (l : List Move) → length x ≡ n → All-placed n l → sum-of-squares n everywhere (register n x l .quadruples) ≡ unit-total (register n x l)
 everything n x l e p = led-whole n l (opened n x) p (opened-whole n x e)
 
 pub outcomes : (n q : ℕ) (x : Index) (l : List Move) → length x ≡ n → All-placed n l
-    → add-squares (sum-of-squares n (outcome q false) (register n x l .quadruples)) (sum-of-squares n (outcome q true) (register n x l .quadruples)) ≡ whole-of (register n x l .power)
+    → add-squares (sum-of-squares n (outcome q false) (register n x l .quadruples)) (sum-of-squares n (outcome q true) (register n x l .quadruples)) ≡ unit-total (register n x l)
 outcomes n q x l e p = exact-squares.outcomes n q (register n x l .quadruples) ∙ everything n x l e p

@@ -4,8 +4,10 @@ use mathlib.Core.Bool.{Bool}
 use mathlib.Core.List.{List, [], _∷_}
 use lib.ListN.{getD}
 use Rattle.exact.specs.declared.Quadruple.{Quadruple}
+use Rattle.exact.specs.declared.RootTwoPower.{RootTwoPower}
 use Rattle.exact.specs.Indices.{number}
 use Rattle.exact.specs.Quadruples.{zero-quadruple, times-power-of-ω}
+use Rattle.exact.specs.States.{root-two-power}
 use Rattle.gates.specs.declared.Gate.{Gate}
 use Rattle.gates.specs.declared.Gate.the-variants.{X, Z, H, S, T, Rx, Ry, Cx, Cz, Ccx}
 
@@ -34,7 +36,7 @@ abbrev pub −i : Entry
 
 -- the entries, row by row, all of them divided by √2 as often as `power` says
 pub record Gate-matrix : Type 0 where
-  pub power : ℕ
+  pub power : RootTwoPower
   pub rows : List (List Entry)
 
 abbrev pub two : {A : Type 0} → A → A → List A
@@ -47,7 +49,7 @@ abbrev pub eight : {A : Type 0} → A → A → A → A → A → A → A → A 
 eight a b c d e f g h = a ∷ (b ∷ (c ∷ (d ∷ (e ∷ (f ∷ (g ∷ (h ∷ [])))))))
 
 abbrev pub over-power : ℕ → List (List Entry) → Gate-matrix
-over-power k rows = record { power = k; rows = rows }
+over-power k rows = record { power = root-two-power k; rows = rows }
 
 abbrev pub gate-matrix : Gate → Gate-matrix
 gate-matrix X = over-power 0 (two
@@ -91,7 +93,7 @@ gate-matrix Ccx = over-power 0 (eight
     (eight O O O O O O O I)
     (eight O O O O O O I O))
 
-abbrev pub power-of : Gate → ℕ
+abbrev pub power-of : Gate → RootTwoPower
 power-of g = gate-matrix g .power
 
 -- the entry at a row and a column, each a setting of the gate's qubits, the first named qubit first

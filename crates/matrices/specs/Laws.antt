@@ -4,12 +4,10 @@ use mathlib.Core.Path.{_≡_}
 use mathlib.Core.Bool.{true, false}
 use mathlib.Core.List.{List, map}
 use lib.ListN.{length, replicate}
-use lib.IntN.{pos}
 use Rattle.exact.specs.declared.Quadruple.{Quadruple}
-use Rattle.exact.specs.declared.RootTwoPower.{RootTwoPower}
 use Rattle.exact.specs.Indices.{Index}
-use Rattle.exact.specs.States.{Same-amplitudes, In-normal-form}
-use Rattle.exact.specs.Squares.{Square, add-squares, times-power-of-2, sum-of-squares, everywhere, outcome}
+use Rattle.exact.specs.States.{State, Same-amplitudes, In-normal-form}
+use Rattle.exact.specs.Squares.{Square, add-squares, power-of-squares, power-of-2, times-power-of-2, sum-of-squares, everywhere, outcome}
 use Rattle.gates.specs.declared.Gate.{Gate}
 use Rattle.gates.specs.Arity.{qubits-of}
 use Rattle.matrices.specs.Gates.{gate-matrix, power-of}
@@ -21,7 +19,7 @@ pub record Gate-laws : Type 0 where
   pub square-shaped : (g : Gate) → map length (gate-matrix g .rows) ≡ replicate (2 ^ qubits-of g) (2 ^ qubits-of g)
   -- a gate multiplies the sum of squares of any list by 2 to the power of its factor
   pub multiplies : (n : ℕ) (m : Move) (v : List Quadruple) → Move-placed n m
-      → sum-of-squares n everywhere (applied n m v) ≡ times-power-of-2 (power-of (m .gate)) (sum-of-squares n everywhere v)
+      → sum-of-squares n everywhere (applied n m v) ≡ times-power-of-2 (power-of-squares (power-of (m .gate))) (sum-of-squares n everywhere v)
 
 pub record Product-laws : Type 0 where
   -- column x of the product is the gates applied one after the other to the basis state x
@@ -33,14 +31,14 @@ pub record Product-laws : Type 0 where
   pub equal : (n : ℕ) (x : Index) (l m : List Move) → length x ≡ n → All-placed n l → All-placed n m
       → Same-matrix n (product-of n l) (product-of n m) → register n x l ≡ register n x m
 
--- what the squares of a register with power k add up to: 2^k and 0
-abbrev pub whole-of : RootTwoPower → Square
-whole-of k = record { whole = 2 ^ (k .0); root = pos 0 }
+-- what the squares of a state add up to where its amplitudes are those of a unit vector: 2^k and 0
+abbrev pub unit-total : State → Square
+unit-total s = power-of-2 (power-of-squares (s .power))
 
 pub record Weight-laws : Type 0 where
   pub everything : (n : ℕ) (x : Index) (l : List Move) → length x ≡ n → All-placed n l
-      → sum-of-squares n everywhere (register n x l .quadruples) ≡ whole-of (register n x l .power)
+      → sum-of-squares n everywhere (register n x l .quadruples) ≡ unit-total (register n x l)
   -- the two outcomes of a qubit add up to that
   pub outcomes : (n q : ℕ) (x : Index) (l : List Move) → length x ≡ n → All-placed n l
       → add-squares (sum-of-squares n (outcome q false) (register n x l .quadruples)) (sum-of-squares n (outcome q true) (register n x l .quadruples))
-      ≡ whole-of (register n x l .power)
+      ≡ unit-total (register n x l)

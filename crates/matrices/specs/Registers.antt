@@ -1,11 +1,11 @@
 -- Registers: opened at an index, and led through gates.
-use Prim.Native.Nat.{ℕ, _+_}
+use Prim.Native.Nat.{ℕ}
 use mathlib.Core.Bool.{cond}
 use mathlib.Core.List.{List, [], _∷_}
 use Rattle.exact.specs.declared.Quadruple.{Quadruple}
 use Rattle.exact.specs.Indices.{Index, listing, total, bits-at, with-setting, same-index, Placed}
 use Rattle.exact.specs.Quadruples.{zero-quadruple, one-quadruple, add}
-use Rattle.exact.specs.States.{State, state, normal-form}
+use Rattle.exact.specs.States.{add-powers, State, state, normal-form}
 use Rattle.exact.specs.Squares.{quadruple-at}
 use Rattle.gates.specs.declared.Gate.{Gate}
 use Rattle.gates.specs.Arity.{qubits-of}
@@ -27,7 +27,7 @@ applied n m v = listing n (new-at m (quadruple-at v))
 
 -- to a state: the gate's power of √2 raises the state's
 unfoldable pub moved : ℕ → Move → State → State
-moved n m s = state (power-of (m .gate) + s .power .0) (applied n m (s .quadruples))
+moved n m s = record { power = add-powers (power-of (m .gate)) (s .power); quadruples = applied n m (s .quadruples) }
 
 -- (0, 0, 0, 1) at the index x, zero elsewhere, power 0
 unfoldable pub opened : ℕ → Index → State
