@@ -121,12 +121,12 @@ unique s t ns nt h = go (cases-order (s .power .0) (t .power .0))
     go (inr (inl l)) = absurd (higher s t nt h l)
     go (inr (inr l)) = absurd (higher t s ns (states-symmetric s t h) l)
 
-pub tells-apart : (s t : State) → normal-form s ≡ normal-form t → Same-amplitudes s t
-tells-apart s t e =
+pub equal-then-same : (s t : State) → normal-form s ≡ normal-form t → Same-amplitudes s t
+equal-then-same s t e =
     states-transitive s (normal-form s) t (states-symmetric (normal-form s) s (same s))
     (subst (λ (u : State). Same-amplitudes u t) (sym e) (same t))
 
-pub joins : (s t : State) → Same-amplitudes s t → normal-form s ≡ normal-form t
-joins s t h =
+pub same-then-equal : (s t : State) → Same-amplitudes s t → normal-form s ≡ normal-form t
+same-then-equal s t h =
     unique (normal-form s) (normal-form t) (reached s) (reached t)
     (states-transitive (normal-form s) s (normal-form t) (same s) (states-transitive s t (normal-form t) h (states-symmetric (normal-form t) t (same t))))

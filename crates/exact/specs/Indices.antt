@@ -50,6 +50,7 @@ with-setting x [] s = x
 with-setting x (q ∷ qs) [] = x
 with-setting x (q ∷ qs) (b ∷ s) = with-setting (with-bit x q b) qs s
 
+-- whether two indices are equal
 unfoldable pub same-index : Index → Index → Bool
 same-index [] [] = true
 same-index [] (c ∷ y) = false

@@ -58,8 +58,8 @@ pub record Normal-form-laws : Type 0 where
   pub same : (s : State) → Same-amplitudes (normal-form s) s
   pub unique : (s t : State) → In-normal-form s → In-normal-form t → Same-amplitudes s t → s ≡ t
   -- so states have the same amplitudes exactly if their normal forms are equal
-  pub tells-apart : (s t : State) → normal-form s ≡ normal-form t → Same-amplitudes s t
-  pub joins : (s t : State) → Same-amplitudes s t → normal-form s ≡ normal-form t
+  pub equal-then-same : (s t : State) → normal-form s ≡ normal-form t → Same-amplitudes s t
+  pub same-then-equal : (s t : State) → Same-amplitudes s t → normal-form s ≡ normal-form t
 
 -- the width is the least number, at least 1, of bits that hold every entry
 pub record Width-laws : Type 0 where

@@ -20,7 +20,8 @@ impl RootTwoPower {
 }
 
 impl Weight {
-    /// The weight in thousandths, to the nearest and halves up, or none where the root part is not 0.
+    /// The weight in thousandths, to the nearest and halves up, or none where the root part is not 0. A share is at most
+    /// 1000, but a weight of its own may be any, so the type is wide enough for all.
     pub fn share(self) -> Option<u128>
         ensures { λ r. ⌜ r ≡ share self ⌝ }
     {
@@ -32,7 +33,7 @@ impl Weight {
     }
 }
 
-// From 2^75 on, half a unit is more than 1000 times any whole part.
+// Half of 2^75 is more than 1000 times any whole part.
 const LARGE_POWER: u32 = 75;
 
 fn thousandths(whole: u64, power: TwoPower) -> u128

@@ -2,7 +2,7 @@
 use Prim.Native.Nat.{ℕ}
 use mathlib.Core.Path.{_≡_}
 use mathlib.Core.Bool.{true, false}
-use mathlib.Core.List.{List, [], _∷_, _++_, map}
+use mathlib.Core.List.{List, [], _∷_, map}
 use lib.Chars.{codes}
 use lib.IntN.{ℤ, pos, negsuc}
 use Rattle.exact.specs.declared.Quadruple.{Quadruple}
@@ -16,17 +16,22 @@ use Rattle.gates.specs.declared.Gate.{Gate}
 use Rattle.gates.specs.declared.Gate.the-variants.{Z, H, T, Rx, Ry, Cx}
 use Rattle.matrices.specs.Registers.{Move, register}
 
--- one qubit, opened at 0 or 1 and led through gates
-abbrev pub one-qubit : ℕ → List Gate → State
-one-qubit i gates = register 1 (bits 1 i) (map (λ g. record { gate = g; qubits = 0 ∷ [] }) gates)
+abbrev pub on-0 : Gate → Move
+on-0 g = record { gate = g; qubits = 0 ∷ [] }
 
--- two qubits, opened at i and led through moves that end with cx, its control 0 and its target 1
+abbrev pub cx-0-1 : Move
+cx-0-1 = record { gate = Cx; qubits = 0 ∷ (1 ∷ []) }
+
+-- one or two qubits, opened at i and led through gates
+abbrev pub one-qubit : ℕ → List Gate → State
+one-qubit i gates = register 1 (bits 1 i) (map on-0 gates)
+
 abbrev pub two-qubits : ℕ → List Move → State
-two-qubits i moves = register 2 (bits 2 i) (moves ++ (record { gate = Cx; qubits = 0 ∷ (1 ∷ []) } ∷ []))
+two-qubits i moves = register 2 (bits 2 i) moves
 
 -- (|00⟩ + |11⟩)/√2
 abbrev pub bell-pair : State
-bell-pair = two-qubits 0 (record { gate = H; qubits = 0 ∷ [] } ∷ [])
+bell-pair = two-qubits 0 (on-0 H ∷ (cx-0-1 ∷ []))
 
 abbrev pub −1 : ℤ
 −1 = negsuc 0
@@ -56,7 +61,7 @@ pub record Examples : Type 0 where
   pub z-width : width (one-qubit 1 (Z ∷ []) .quadruples) ≡ 1
   pub rx : one-qubit 0 (Rx ∷ []) ≡ state 1 (𝟏 ∷ (quadruple (pos 0) −1 (pos 0) (pos 0) ∷ []))
   pub ry : one-qubit 1 (Ry ∷ []) ≡ state 1 (−𝟏 ∷ (𝟏 ∷ []))
-  pub cx : two-qubits 2 [] ≡ state 0 (𝟎 ∷ (𝟎 ∷ (𝟎 ∷ (𝟏 ∷ []))))
+  pub cx : two-qubits 2 (cx-0-1 ∷ []) ≡ state 0 (𝟎 ∷ (𝟎 ∷ (𝟎 ∷ (𝟏 ∷ []))))
   pub bell : bell-pair ≡ state 1 (𝟏 ∷ (𝟎 ∷ (𝟎 ∷ (𝟏 ∷ []))))
   -- as they are written
   pub bell-amplitude : amplitude-text (amplitude-at bell-pair 3) ≡ codes "0 0 0 1 1"

@@ -16,6 +16,7 @@ pub data Entry : Type 0 where
   nought : Entry
   ω-to : ℕ → Entry
 
+-- 0, 1, ω, i, −1 and −i
 abbrev pub O : Entry
 O = nought
 
@@ -39,6 +40,7 @@ pub record Gate-matrix : Type 0 where
   pub power : RootTwoPower
   pub rows : List (List Entry)
 
+-- lists of two, four and eight
 abbrev pub two : {A : Type 0} → A → A → List A
 two a b = a ∷ (b ∷ [])
 
@@ -48,9 +50,12 @@ four a b c d = a ∷ (b ∷ (c ∷ (d ∷ [])))
 abbrev pub eight : {A : Type 0} → A → A → A → A → A → A → A → A → List A
 eight a b c d e f g h = a ∷ (b ∷ (c ∷ (d ∷ (e ∷ (f ∷ (g ∷ (h ∷ [])))))))
 
+-- the rows, divided k times by √2
 abbrev pub over-power : ℕ → List (List Entry) → Gate-matrix
 over-power k rows = record { power = root-two-power k; rows = rows }
 
+-- x flips a qubit, z and s and t turn its phase by π, π/2 and π/4, h is Hadamard's, rx and ry rotate by π/2; the last three
+-- apply x, z and x to their last qubit where all the others are 1
 abbrev pub gate-matrix : Gate → Gate-matrix
 gate-matrix X = over-power 0 (two
     (two O I)
@@ -93,6 +98,7 @@ gate-matrix Ccx = over-power 0 (eight
     (eight O O O O O O O I)
     (eight O O O O O O I O))
 
+-- how often the gate's matrix is divided by √2
 abbrev pub power-of : Gate → RootTwoPower
 power-of g = gate-matrix g .power
 

@@ -25,7 +25,7 @@ new-at m old x = total add (qubits-of (m .gate)) (λ s. times-entry (entry (m .g
 unfoldable pub applied : ℕ → Move → List Quadruple → List Quadruple
 applied n m v = listing n (new-at m (quadruple-at v))
 
--- to a state: the gate's power of √2 raises the state's
+-- a gate applied to a state, whose power of √2 rises by the gate's
 unfoldable pub moved : ℕ → Move → State → State
 moved n m s = record { power = add-powers (power-of (m .gate)) (s .power); quadruples = applied n m (s .quadruples) }
 
