@@ -26,7 +26,7 @@ set-setting x p c [] s h = refl
 set-setting x p c (q ∷ qs) [] h = refl
 set-setting x p c (q ∷ qs) (b ∷ s) h = set-setting (set x q b) p c qs s (h .1) ∙ ap (λ (y : Index). with-setting y qs s) (set-comm x q p b c (λ e. h .0 (sym e)))
 
--- what was put is read
+-- the bits at the qubits of a setting are the setting
 pub read-setting : (x : Index) (qs : List ℕ) (s : Index) → Below (length x) qs → Apart qs → length s ≡ length qs → bits-at (with-setting x qs s) qs ≡ s
 unfolding bits-at with-setting
 read-setting x [] [] h k e = refl
@@ -38,7 +38,7 @@ read-setting x (q ∷ qs) (b ∷ s) h k e =
     (setting-elsewhere (set x q b) q qs s (k .0) ∙ getD-set-same x q b false (h .0))
     (read-setting (set x q b) qs s (subst (λ (m : ℕ). Below m qs) l (h .1)) (k .1) (omega arith))
 
--- the last one put stays
+-- of two settings of the same qubits the later one stays
 pub setting-twice : (x : Index) (qs : List ℕ) (r s : Index) → Apart qs → length r ≡ length qs → length s ≡ length qs → with-setting (with-setting x qs r) qs s ≡ with-setting x qs s
 unfolding with-setting
 setting-twice x [] r s k e f = refl

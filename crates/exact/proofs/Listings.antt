@@ -6,35 +6,35 @@ use mathlib.Core.Bool.{true, false}
 use mathlib.Core.List.{List, [], _∷_, _++_}
 use lib.ListN.{length, getD, take, drop, length-append, take-append-drop, length-take, length-drop, List·getD-append}
 use lib.Seq.{getD-take, getD-drop, getD-append-add}
-use Rattle.exact.specs.Indices.{Index, number, listing, at-index}
+use Rattle.exact.specs.Indices.{Index, number, where-0, where-1, listing, at-index}
 use Rattle.exact.proofs.Indices.{double, number-below}
 
 pub length-listing : {A : Type 0} (n : ℕ) (f : Index → A) → length (listing n f) ≡ 2 ^ n
 unfolding listing
 length-listing zero f = refl
-length-listing (suc n) f = length-append (listing n (λ x. f (false ∷ x))) (listing n (λ x. f (true ∷ x))) ∙ ap₂ (λ (a b : ℕ). a + b) (length-listing n (λ x. f (false ∷ x))) (length-listing n (λ x. f (true ∷ x))) ∙ double n
+length-listing (suc n) f = length-append (listing n (where-0 f)) (listing n (where-1 f)) ∙ ap₂ (λ (a b : ℕ). a + b) (length-listing n (where-0 f)) (length-listing n (where-1 f)) ∙ double n
 
 pub listing-same : {A : Type 0} (n : ℕ) (f g : Index → A) → ((x : Index) → length x ≡ n → f x ≡ g x) → listing n f ≡ listing n g
 unfolding listing
 listing-same zero f g h = ap (λ y. y ∷ []) (h [] refl)
-listing-same (suc n) f g h = ap₂ (λ xs ys. xs ++ ys) (listing-same n (λ x. f (false ∷ x)) (λ x. g (false ∷ x)) (λ x l. h (false ∷ x) (ap suc l))) (listing-same n (λ x. f (true ∷ x)) (λ x. g (true ∷ x)) (λ x l. h (true ∷ x) (ap suc l)))
+listing-same (suc n) f g h = ap₂ (λ xs ys. xs ++ ys) (listing-same n (where-0 f) (where-0 g) (λ x l. h (false ∷ x) (ap suc l))) (listing-same n (where-1 f) (where-1 g) (λ x l. h (true ∷ x) (ap suc l)))
 
 -- element number (index x) is f x
 pub listing-at : {A : Type 0} (x : Index) (f : Index → A) (d : A) → getD (listing (length x) f) (number x) d ≡ f x
 unfolding listing number
 listing-at [] f d = refl
 listing-at (false ∷ x) f d =
-    let l : length (listing (length x) (λ y. f (false ∷ y))) ≡ 2 ^ length x = length-listing (length x) (λ y. f (false ∷ y)) in
+    let l : length (listing (length x) (where-0 f)) ≡ 2 ^ length x = length-listing (length x) (where-0 f) in
     let b = number-below x in
     let z : 0 + number x ≡ number x = omega arith in
-    ap (λ (i : ℕ). getD (listing (length x) (λ y. f (false ∷ y)) ++ listing (length x) (λ y. f (true ∷ y))) i d) z
-    ∙ List·getD-append (listing (length x) (λ y. f (false ∷ y))) (listing (length x) (λ y. f (true ∷ y))) d (number x) (omega arith)
-    ∙ listing-at x (λ y. f (false ∷ y)) d
+    ap (λ (i : ℕ). getD (listing (length x) (where-0 f) ++ listing (length x) (where-1 f)) i d) z
+    ∙ List·getD-append (listing (length x) (where-0 f)) (listing (length x) (where-1 f)) d (number x) (omega arith)
+    ∙ listing-at x (where-0 f) d
 listing-at (true ∷ x) f d =
-    let l : length (listing (length x) (λ y. f (false ∷ y))) ≡ 2 ^ length x = length-listing (length x) (λ y. f (false ∷ y)) in
-    ap (λ (m : ℕ). getD (listing (length x) (λ y. f (false ∷ y)) ++ listing (length x) (λ y. f (true ∷ y))) (m + number x) d) (sym l)
-    ∙ getD-append-add (listing (length x) (λ y. f (false ∷ y))) (listing (length x) (λ y. f (true ∷ y))) (number x) d
-    ∙ listing-at x (λ y. f (true ∷ y)) d
+    let l : length (listing (length x) (where-0 f)) ≡ 2 ^ length x = length-listing (length x) (where-0 f) in
+    ap (λ (m : ℕ). getD (listing (length x) (where-0 f) ++ listing (length x) (where-1 f)) (m + number x) d) (sym l)
+    ∙ getD-append-add (listing (length x) (where-0 f)) (listing (length x) (where-1 f)) (number x) d
+    ∙ listing-at x (where-1 f) d
 
 pub at-listing : {A : Type 0} (none : A) (n : ℕ) (f : Index → A) (x : Index) → length x ≡ n → at-index none (listing n f) x ≡ f x
 unfolding at-index
@@ -52,8 +52,8 @@ module _ {A : Type 0} (none : A) where
       let a : length (take (2 ^ n) v) ≡ 2 ^ n = length-take (2 ^ n) v ∙ x in
       let b : length (drop (2 ^ n) v) ≡ 2 ^ n = length-drop (2 ^ n) v ∙ y in
       ap₂ (λ (s t : List A). s ++ t)
-      (listing-same n (λ x. at-index none v (false ∷ x)) (at-index none (take (2 ^ n) v)) first ∙ listing-own n (take (2 ^ n) v) a)
-      (listing-same n (λ x. at-index none v (true ∷ x)) (at-index none (drop (2 ^ n) v)) second ∙ listing-own n (drop (2 ^ n) v) b)
+      (listing-same n (where-0 (at-index none v)) (at-index none (take (2 ^ n) v)) first ∙ listing-own n (take (2 ^ n) v) a)
+      (listing-same n (where-1 (at-index none v)) (at-index none (drop (2 ^ n) v)) second ∙ listing-own n (drop (2 ^ n) v) b)
       ∙ take-append-drop (2 ^ n) v
     where
       x : min (2 ^ n) (length v) ≡ 2 ^ n

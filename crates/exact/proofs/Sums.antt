@@ -6,7 +6,7 @@ use mathlib.Core.Bool.{true, false, cond}
 use mathlib.Core.List.{List, [], _∷_}
 use lib.ListN.{length, set}
 use lib.IntN.{pos, _+ℤ_, +ℤ-idl, +ℤ-assoc, +ℤ-comm}
-use Rattle.exact.specs.Indices.{Index, total, with-setting, Below, same-index}
+use Rattle.exact.specs.Indices.{Index, where-0, where-1, total, with-setting, Below, same-index}
 use Rattle.exact.specs.Quadruples.{add, zero-quadruple}
 use Rattle.exact.proofs.Expressions.{quadruple-path}
 
@@ -24,13 +24,13 @@ pub record Adds {A : Type 0} (add : A → A → A) (none : A) : Type 0 where
 pub total-same : {A : Type 0} (add : A → A → A) (n : ℕ) (f g : Index → A) → ((x : Index) → length x ≡ n → f x ≡ g x) → total add n f ≡ total add n g
 unfolding total
 total-same add zero f g h = h [] refl
-total-same add (suc n) f g h = ap₂ add (total-same add n (λ x. f (false ∷ x)) (λ x. g (false ∷ x)) (λ x l. h (false ∷ x) (ap suc l))) (total-same add n (λ x. f (true ∷ x)) (λ x. g (true ∷ x)) (λ x l. h (true ∷ x) (ap suc l)))
+total-same add (suc n) f g h = ap₂ add (total-same add n (where-0 f) (where-0 g) (λ x l. h (false ∷ x) (ap suc l))) (total-same add n (where-1 f) (where-1 g) (λ x l. h (true ∷ x) (ap suc l)))
 
 -- a function that respects the sums goes inside
 pub total-map : {A B : Type 0} (add : A → A → A) (plus : B → B → B) (f : A → B) → ((x y : A) → f (add x y) ≡ plus (f x) (f y)) → (n : ℕ) (u : Index → A) → f (total add n u) ≡ total plus n (λ x. f (u x))
 unfolding total
 total-map add plus f h zero u = refl
-total-map add plus f h (suc n) u = h (total add n (λ x. u (false ∷ x))) (total add n (λ x. u (true ∷ x))) ∙ ap₂ plus (total-map add plus f h n (λ x. u (false ∷ x))) (total-map add plus f h n (λ x. u (true ∷ x)))
+total-map add plus f h (suc n) u = h (total add n (where-0 u)) (total add n (where-1 u)) ∙ ap₂ plus (total-map add plus f h n (where-0 u)) (total-map add plus f h n (where-1 u))
 
 module _ {A : Type 0} (add : A → A → A) (none : A) (L : Adds add none) where
   pub four-way : (x y z t : A) → add (add x y) (add z t) ≡ add (add x z) (add y t)
@@ -40,8 +40,8 @@ module _ {A : Type 0} (add : A → A → A) (none : A) (L : Adds add none) where
   unfolding total
   total-add zero f g = refl
   total-add (suc n) f g =
-      ap₂ add (total-add n (λ x. f (false ∷ x)) (λ x. g (false ∷ x))) (total-add n (λ x. f (true ∷ x)) (λ x. g (true ∷ x)))
-      ∙ four-way (total add n (λ x. f (false ∷ x))) (total add n (λ x. g (false ∷ x))) (total add n (λ x. f (true ∷ x))) (total add n (λ x. g (true ∷ x)))
+      ap₂ add (total-add n (where-0 f) (where-0 g)) (total-add n (where-1 f) (where-1 g))
+      ∙ four-way (total add n (where-0 f)) (total add n (where-0 g)) (total add n (where-1 f)) (total add n (where-1 g))
 
   pub total-none : (n : ℕ) → total add n (λ x. none) ≡ none
   unfolding total
@@ -53,7 +53,7 @@ module _ {A : Type 0} (add : A → A → A) (none : A) (L : Adds add none) where
   unfolding total
   total-swap zero m f = refl
   total-swap (suc n) m f =
-      ap₂ add (total-swap n m (λ x. f (false ∷ x))) (total-swap n m (λ x. f (true ∷ x)))
+      ap₂ add (total-swap n m (where-0 f)) (total-swap n m (where-1 f))
       ∙ sym (total-add m (λ s. total add n (λ x. f (false ∷ x) s)) (λ s. total add n (λ x. f (true ∷ x) s)))
 
   pub doubled-add : (m : ℕ) (x y : A) → doubled add m (add x y) ≡ add (doubled add m x) (doubled add m y)
@@ -73,11 +73,11 @@ module _ {A : Type 0} (add : A → A → A) (none : A) (L : Adds add none) where
   pub both-settings : (n q : ℕ) (f : Index → A) → q < n → add (total add n (λ x. f (set x q false))) (total add n (λ x. f (set x q true))) ≡ add (total add n f) (total add n f)
   unfolding total
   both-settings zero q f h = absurd (omega arith)
-  both-settings (suc n) zero f h = four-way (total add n (λ x. f (false ∷ x))) (total add n (λ x. f (false ∷ x))) (total add n (λ x. f (true ∷ x))) (total add n (λ x. f (true ∷ x)))
+  both-settings (suc n) zero f h = four-way (total add n (where-0 f)) (total add n (where-0 f)) (total add n (where-1 f)) (total add n (where-1 f))
   both-settings (suc n) (suc q) f h =
       four-way (total add n (λ x. f (false ∷ set x q false))) (total add n (λ x. f (true ∷ set x q false))) (total add n (λ x. f (false ∷ set x q true))) (total add n (λ x. f (true ∷ set x q true)))
-      ∙ ap₂ add (both-settings n q (λ x. f (false ∷ x)) (omega arith)) (both-settings n q (λ x. f (true ∷ x)) (omega arith))
-      ∙ four-way (total add n (λ x. f (false ∷ x))) (total add n (λ x. f (false ∷ x))) (total add n (λ x. f (true ∷ x))) (total add n (λ x. f (true ∷ x)))
+      ∙ ap₂ add (both-settings n q (where-0 f) (omega arith)) (both-settings n q (where-1 f) (omega arith))
+      ∙ four-way (total add n (where-0 f)) (total add n (where-0 f)) (total add n (where-1 f)) (total add n (where-1 f))
 
   -- all settings of m qubits: everything 2^m times
   pub all-settings : (n : ℕ) (qs : List ℕ) (f : Index → A) → Below n qs → total add n (λ x. total add (length qs) (λ s. f (with-setting x qs s))) ≡ doubled add (length qs) (total add n f)
@@ -93,8 +93,8 @@ module _ {A : Type 0} (add : A → A → A) (none : A) (L : Adds add none) where
   pub total-pick : (x : Index) (f : Index → A) → total add (length x) (λ k. cond (same-index x k) (f k) none) ≡ f x
   unfolding total same-index
   total-pick [] f = refl
-  total-pick (false ∷ x) f = ap₂ add (total-pick x (λ k. f (false ∷ k))) (total-none (length x)) ∙ L .comm (f (false ∷ x)) none ∙ L .idl (f (false ∷ x))
-  total-pick (true ∷ x) f = ap₂ add (total-none (length x)) (total-pick x (λ k. f (true ∷ k))) ∙ L .idl (f (true ∷ x))
+  total-pick (false ∷ x) f = ap₂ add (total-pick x (where-0 f)) (total-none (length x)) ∙ L .comm (f (false ∷ x)) none ∙ L .idl (f (false ∷ x))
+  total-pick (true ∷ x) f = ap₂ add (total-none (length x)) (total-pick x (where-1 f)) ∙ L .idl (f (true ∷ x))
 
   pub total-picked : (n : ℕ) (x : Index) (f : Index → A) → length x ≡ n → total add n (λ k. cond (same-index x k) (f k) none) ≡ f x
   total-picked n x f l = ap (λ (m : ℕ). total add m (λ k. cond (same-index x k) (f k) none)) (sym l) ∙ total-pick x f

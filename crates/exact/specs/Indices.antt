@@ -20,14 +20,21 @@ unfoldable pub bits : ℕ → ℕ → Index
 bits zero i = []
 bits (suc n) i = eqb (i / 2 ^ n % 2) 1 ∷ bits n i
 
+-- f where qubit 0 is 0, and where it is 1, as functions of the other qubits
+abbrev pub where-0 : {A : Type 0} → (Index → A) → Index → A
+where-0 f x = f (false ∷ x)
+
+abbrev pub where-1 : {A : Type 0} → (Index → A) → Index → A
+where-1 f x = f (true ∷ x)
+
 -- f at every index of n qubits, in their order: as a list, and as a sum
 unfoldable pub listing : {A : Type 0} → ℕ → (Index → A) → List A
 listing zero f = f [] ∷ []
-listing (suc n) f = listing n (λ x. f (false ∷ x)) ++ listing n (λ x. f (true ∷ x))
+listing (suc n) f = listing n (where-0 f) ++ listing n (where-1 f)
 
 unfoldable pub total : {A : Type 0} → (A → A → A) → ℕ → (Index → A) → A
 total add zero f = f []
-total add (suc n) f = add (total add n (λ x. f (false ∷ x))) (total add n (λ x. f (true ∷ x)))
+total add (suc n) f = add (total add n (where-0 f)) (total add n (where-1 f))
 
 -- the element of a list at an index; past the list's end it is `none`
 unfoldable pub at-index : {A : Type 0} → A → List A → Index → A
