@@ -3,6 +3,7 @@ use Prim.Native.Nat.{ℕ, suc, _+_, _-_, _≤_, _<_}
 use native.Mathlib.Omega.{arith}
 use mathlib.Core.Path.{_≡_, refl, sym, ap, _∙_}
 use mathlib.Core.Bool.{Bool, true, false, cond, true≢false, false≢true}
+use lib.IntN.{ℤ}
 use Rattle.std.specs.Orderings.{Decides}
 use Rattle.std.specs.declared.option.Option.the-variants.{None, Some}
 use Rattle.exact.specs.declared.Amplitude.{Amplitude}
@@ -76,9 +77,12 @@ Each r p q = cond {A = Type 0} r
     (Decides true (p .a ≡ q .a) × (Decides true (p .b ≡ q .b) × (Decides true (p .c ≡ q .c) × Decides true (p .d ≡ q .d))))
     ((Decides false (p .a ≡ q .a) → ⊥) → (Decides false (p .b ≡ q .b) → ⊥) → (Decides false (p .c ≡ q .c) → ⊥) → (Decides false (p .d ≡ q .d) → ⊥) → ⊥)
 
+differs : {x y : ℤ} → x ≡ y → Decides false (x ≡ y) → ⊥
+differs e d = false≢true (d .1 e)
+
 pub equals : (r : Bool) (p q : Quadruple) → Each r p q → Decides r (p ≡ q)
 equals true p q h = (λ _. quadruple-path (h .0 .0 refl) (h .1 .0 .0 refl) (h .1 .1 .0 .0 refl) (h .1 .1 .1 .0 refl), λ _. refl)
 equals false p q h = (
   λ e. absurd (false≢true e),
-  λ e. absurd (h (λ d. false≢true (d .1 (ap (λ (x : Quadruple). x .a) e))) (λ d. false≢true (d .1 (ap (λ (x : Quadruple). x .b) e))) (λ d. false≢true (d .1 (ap (λ (x : Quadruple). x .c) e))) (λ d. false≢true (d .1 (ap (λ (x : Quadruple). x .d) e)))),
+  λ e. absurd (h (differs (ap (λ (x : Quadruple). x .a) e)) (differs (ap (λ (x : Quadruple). x .b) e)) (differs (ap (λ (x : Quadruple). x .c) e)) (differs (ap (λ (x : Quadruple). x .d) e))),
 )

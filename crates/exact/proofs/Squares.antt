@@ -10,7 +10,7 @@ use Rattle.exact.specs.declared.Quadruple.{Quadruple}
 use Rattle.exact.specs.Indices.{Index, number, bit, total, at-index}
 use Rattle.exact.specs.Quadruples.{zero-quadruple, times-√2, over-√2}
 use Rattle.exact.specs.States.{some-odd-sum}
-use Rattle.exact.specs.Squares.{Square, square, no-square, add-squares, quadruple-at, sum-of-squares, everywhere, elsewhere, outcome}
+use Rattle.exact.specs.Squares.{Square, square, no-square, add-squares, quadruple-at, square-if, sum-of-squares, everywhere, elsewhere, outcome}
 use Rattle.exact.proofs.Sums.{Adds, total-same, total-add}
 use Rattle.exact.proofs.Roots.{square-path, doubles-square}
 use Rattle.exact.proofs.Division.{divided}
@@ -54,11 +54,8 @@ square-over v x e =
 pub halved : (n : ℕ) (p : Index → Bool) (v : List Quadruple) → some-odd-sum v ≡ false
     → sum-of-squares n p v ≡ add-squares (sum-of-squares n p (map over-√2 v)) (sum-of-squares n p (map over-√2 v))
 unfolding sum-of-squares
-halved n p v e = sym (added n (half-at p) (half-at p) (λ x. cond (p x) (square (quadruple-at v x)) no-square) (λ x. each (p x) x))
+halved n p v e = sym (added n (square-if p (map over-√2 v)) (square-if p (map over-√2 v)) (square-if p v) (λ x. each (p x) x))
   where
-    half-at : (Index → Bool) → Index → Square
-    half-at p x = cond (p x) (square (quadruple-at (map over-√2 v) x)) no-square
-
     each : (b : Bool) (x : Index) → add-squares (cond b (square (quadruple-at (map over-√2 v) x)) no-square) (cond b (square (quadruple-at (map over-√2 v) x)) no-square) ≡ cond b (square (quadruple-at v x)) no-square
     each true x = square-over v x e
     each false x = refl
@@ -67,7 +64,7 @@ halved n p v e = sym (added n (half-at p) (half-at p) (λ x. cond (p x) (square 
 pub parted : (n : ℕ) (p : Index → Bool) (v : List Quadruple)
     → add-squares (sum-of-squares n p v) (sum-of-squares n (elsewhere p) v) ≡ sum-of-squares n everywhere v
 unfolding sum-of-squares
-parted n p v = added n (λ x. cond (p x) (square (quadruple-at v x)) no-square) (λ x. cond (not (p x)) (square (quadruple-at v x)) no-square) (λ x. square (quadruple-at v x)) (λ x. each (p x) (square (quadruple-at v x)))
+parted n p v = added n (square-if p v) (square-if (elsewhere p) v) (square-if everywhere v) (λ x. each (p x) (square (quadruple-at v x)))
   where
     each : (b : Bool) (s : Square) → add-squares (cond b s no-square) (cond (not b) s no-square) ≡ s
     each true s = right-none s
@@ -76,7 +73,7 @@ parted n p v = added n (λ x. cond (p x) (square (quadruple-at v x)) no-square) 
 pub outcomes : (n q : ℕ) (v : List Quadruple)
     → add-squares (sum-of-squares n (outcome q false) v) (sum-of-squares n (outcome q true) v) ≡ sum-of-squares n everywhere v
 unfolding sum-of-squares
-outcomes n q v = added n (λ x. cond (Bool·beq (bit x q) false) (square (quadruple-at v x)) no-square) (λ x. cond (Bool·beq (bit x q) true) (square (quadruple-at v x)) no-square) (λ x. square (quadruple-at v x)) (λ x. each (bit x q) (square (quadruple-at v x)))
+outcomes n q v = added n (square-if (outcome q false) v) (square-if (outcome q true) v) (square-if everywhere v) (λ x. each (bit x q) (square (quadruple-at v x)))
   where
     each : (b : Bool) (s : Square) → add-squares (cond (Bool·beq b false) s no-square) (cond (Bool·beq b true) s no-square) ≡ s
     each true s = squares .idl s

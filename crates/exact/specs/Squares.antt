@@ -51,9 +51,12 @@ times-power-of-2 k s = record { whole = 2 ^ (k .0) * s .whole; root = pos (2 ^ (
 abbrev pub quadruple-at : List Quadruple → Index → Quadruple
 quadruple-at v x = at-index zero-quadruple v x
 
--- the sum of the squares over the indices of n qubits at which p holds
+-- the square at an index if p holds there, and the sum over the indices of n qubits
+abbrev pub square-if : (Index → Bool) → List Quadruple → Index → Square
+square-if p v x = cond (p x) (square (quadruple-at v x)) no-square
+
 unfoldable pub sum-of-squares : ℕ → (Index → Bool) → List Quadruple → Square
-sum-of-squares n p v = total add-squares n (λ x. cond (p x) (square (quadruple-at v x)) no-square)
+sum-of-squares n p v = total add-squares n (square-if p v)
 
 abbrev pub everywhere : Index → Bool
 everywhere x = true
