@@ -18,6 +18,7 @@ impl Quadruple {
     {
         let ac = half_sum(self.a, self.c)?;
         let bd = half_sum(self.b, self.d)?;
+        // (b − d)/2 is (b + d)/2 − d, and (c − a)/2 is (a + c)/2 − a.
         Some(Quadruple {
             a: bd - self.d,
             b: ac,
