@@ -4,6 +4,7 @@ use mathlib.Core.Bool.{Bool}
 use mathlib.Core.List.{List, [], _∷_, _++_, map}
 use Prim.Native.Nat.{ℕ, _≤_}
 use lib.ListN.{length}
+use Rattle.exact.specs.Indices.{Index}
 use Rattle.std.specs.Written.{decimal}
 use Rattle.std.specs.Joined.{joined}
 use Rattle.std.specs.shelf.Lists.{All}
@@ -18,7 +19,7 @@ use Rattle.text_numbers.specs.Numbers.{Small, bit-byte, index-word}
 -- a register to be opened at a basis index, whose bits begin with qubit 0
 pub record Opening : Type 0 where
   pub register : ℕ
-  pub index : List Bool
+  pub index : Index
 
 -- a step, and the numbers after its word: a gate's register and qubits, controls first; a copy's source and target; a close's register
 pub record Step : Type 0 where
@@ -27,7 +28,7 @@ pub record Step : Type 0 where
 
 -- of a register: the amplitude at a basis index; the weight of a qubit's outcome; whether it is the same as another
 pub data Question : Type 0 where
-  amp : ℕ → List Bool → Question
+  amp : ℕ → Index → Question
   weight : ℕ → ℕ → Bool → Question
   same : ℕ → ℕ → Question
 

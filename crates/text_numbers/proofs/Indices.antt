@@ -4,7 +4,7 @@ use mathlib.Core.Logic.{⊎-elim}
 use mathlib.Core.Bool.{Bool, true, false, cond, _&&_}
 use mathlib.Core.List.{List, [], _∷_}
 use Prim.Native.Nat.{ℕ, _+_, _*_, _^_, _≤_, _<_, suc}
-use native.Mathlib.Nat.{pow-succ', pow-le-pow-right}
+use native.Mathlib.Nat.{add-mul, mul-assoc, mul-comm, pow-succ', pow-le-pow-right}
 use native.Mathlib.Numerals.{add-one}
 use native.Mathlib.Omega.{arith}
 use lib.Dec.{eqb, leb}
@@ -14,17 +14,39 @@ use Rattle.std.proofs.shelf.Tests.{and-parts, and-from, eqb-true, eq-eqb, cond-
 use Rattle.std.proofs.shelf.Ways.{tells}
 use Rattle.std.specs.declared.option.Option.{Option}
 use Rattle.std.specs.declared.option.Option.the-variants.{Some, None}
-use Rattle.text_numbers.specs.Numbers.{bit-byte, index-word, bits-value, index-number, all-bits, bits-of, is-index, index-of, Reads-index}
+use Rattle.exact.specs.Indices.{number}
+use Rattle.text_numbers.specs.Numbers.{bit-byte, index-word, all-bits, bits-of, is-index, index-of, Reads-index}
 use Rattle.text_numbers.proofs.Options.{none-not-some}
+
+-- the number of a basis index, bit by bit
+pub bits-value : ℕ → List Bool → ℕ
+bits-value n [] = n
+bits-value n (b ∷ bs) = bits-value (2 * n + cond b 1 0) bs
+
+value-on : (n : ℕ) (bs : List Bool) → bits-value n bs ≡ n * 2 ^ length bs + number bs
+unfolding bits-value number
+value-on n [] = omega arith
+value-on n (b ∷ bs) =
+    let p = 2 ^ length bs in
+    let double : n * (2 * p) ≡ 2 * (n * p) = sym (mul-assoc n 2 p) ∙ ap (λ x. x * p) (mul-comm n 2) ∙ mul-assoc 2 n p in
+    value-on (2 * n + cond b 1 0) bs
+    ∙ elim b as (λ x. (2 * n + cond x 1 0) * p + number bs ≡ n * (2 * p) + (cond x p 0 + number bs)) [
+      | true ↦ omega (arith, double, add-mul (2 * n) 1 p, mul-assoc 2 n p)
+      | false ↦ omega (arith, double, add-mul (2 * n) 0 p, mul-assoc 2 n p)
+    ]
+    ∙ ap (λ x. n * x + (cond b p 0 + number bs)) (sym (pow-succ' 2 (length bs)))
+
+value-is : (bs : List Bool) → bits-value 0 bs ≡ number bs
+value-is bs = value-on 0 bs ∙ omega arith
 
 -- some bits of a word are read: what is left of it gives the whole
 pub record Bits-read (w : List ℕ) (i value : ℕ) : Type 0 where
   pub small : value < 2 ^ i
   pub bits : all-bits (drop i w) ≡ all-bits w
-  pub number : bits-value value (bits-of (drop i w)) ≡ index-number (bits-of w)
+  pub value-so-far : bits-value value (bits-of (drop i w)) ≡ number (bits-of w)
 
 pub bits-none : (w : List ℕ) → Bits-read w 0 0
-bits-none w = record { small = omega arith; bits = refl; number = refl }
+bits-none w = record { small = omega arith; bits = refl; value-so-far = value-is (bits-of w) }
 
 bits-left : (w : List ℕ) (i : ℕ) → i < length w → all-bits (drop i w) ≡ ((leb 48 (getD w i 0) && leb (getD w i 0) 49) && all-bits (drop (i + 1) w))
 unfolding all-bits
@@ -38,7 +60,7 @@ pub bits-more : (w : List ℕ) (i v : ℕ) (b : Bool) → Bits-read w i v → i 
 bits-more w i v b r h e = record {
   small = rw (add-one i, pow-succ' 2 i) (elim b as (λ x. 2 * v + cond x 1 0 < 2 * 2 ^ i) [ true ↦ omega (arith, r .small) | false ↦ omega (arith, r .small) ]);
   bits = sym (bits-left w i h ∙ ap (λ x. (leb 48 x && leb x 49) && all-bits (drop (i + 1) w)) e ∙ byte-fits b) ∙ r .bits;
-  number = sym (value-left w i v h ∙ ap (λ x. bits-value (2 * v + cond (eqb x 49) 1 0) (bits-of (drop (i + 1) w))) e ∙ byte-counts b) ∙ r .number;
+  value-so-far = sym (value-left w i v h ∙ ap (λ x. bits-value (2 * v + cond (eqb x 49) 1 0) (bits-of (drop (i + 1) w))) e ∙ byte-counts b) ∙ r .value-so-far;
 }
   where
     byte-fits : (x : Bool) → ((leb 48 (bit-byte x) && leb (bit-byte x) 49) && all-bits (drop (i + 1) w)) ≡ all-bits (drop (i + 1) w)
@@ -63,7 +85,7 @@ pub bits-all : (w : List ℕ) (i v n : ℕ) → Bits-read w i v → length w ≤
 unfolding all-bits bits-of bits-value
 bits-all w i v n r h l =
     let a : all-bits w ≡ true = sym (r .bits) ∙ at-drop-all all-bits w i h in
-    let v' : v ≡ index-number (bits-of w) = sym (at-drop-all (λ x. bits-value v (bits-of x)) w i h) ∙ r .number in
+    let v' : v ≡ number (bits-of w) = sym (at-drop-all (λ x. bits-value v (bits-of x)) w i h) ∙ r .value-so-far in
     ap Some v' ∙ sym (cond-true _ _ _ (and-from _ _ (eq-eqb _ _ l) a))
 
 -- bits and the bytes that write them
@@ -107,9 +129,9 @@ reads-index n w (Some i) e =
     ⊎-elim
     (λ h.
     let p = and-parts (eqb (length w) n) (all-bits w) h in
-    let s : Some i ≡ Some (index-number (bits-of w)) = e ∙ cond-true _ _ _ h in
-    let q : i ≡ index-number (bits-of w) = cc in
+    let s : Some i ≡ Some (number (bits-of w)) = e ∙ cond-true _ _ _ h in
+    let q : i ≡ number (bits-of w) = cc in
     (bits-of w, (bits-long w ∙ eqb-true _ _ (p .0), index-says w (p .1), q)))
     (λ h. absurd (none-not-some i (sym (e ∙ cond-false _ _ _ h))))
     (cases-bool (is-index n w))
-reads-index n w None e = λ bits l d. none-not-some (index-number (bits-of w)) (e ∙ cond-true _ _ _ (ap (is-index n) d ∙ word-index n bits l))
+reads-index n w None e = λ bits l d. none-not-some (number (bits-of w)) (e ∙ cond-true _ _ _ (ap (is-index n) d ∙ word-index n bits l))

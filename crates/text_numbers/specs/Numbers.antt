@@ -6,6 +6,7 @@ use Prim.Native.Nat.{ℕ, _+_, _*_, _-_, _<_}
 use lib.Dec.{eqb, leb, ltb}
 use lib.ListN.{length, getD}
 use Rattle.std.specs.Written.{decimal}
+use Rattle.exact.specs.Indices.{Index, number}
 use Rattle.std.specs.declared.option.Option.{Option}
 use Rattle.std.specs.declared.option.Option.the-variants.{Some, None}
 
@@ -36,21 +37,13 @@ number-of w = cond (well-formed w) (digits-value 0 w) None
 abbrev pub bit-byte : Bool → ℕ
 bit-byte b = cond b 49 48
 
-unfoldable pub index-word : List Bool → List ℕ
+unfoldable pub index-word : Index → List ℕ
 index-word bits = map bit-byte bits
-
--- the number of a basis index, of which qubit 0 is the highest bit
-unfoldable pub bits-value : ℕ → List Bool → ℕ
-bits-value n [] = n
-bits-value n (b ∷ bs) = bits-value (2 * n + cond b 1 0) bs
-
-abbrev pub index-number : List Bool → ℕ
-index-number bits = bits-value 0 bits
 
 -- what reading a word as a basis index of n qubits says of it
 abbrev pub Reads-index : ℕ → List ℕ → Option ℕ → Type 0
-Reads-index n w (Some i) = (bits : List Bool) × ((length bits ≡ n) × (w ≡ index-word bits) × (i ≡ index-number bits))
-Reads-index n w None = (bits : List Bool) → length bits ≡ n → w ≡ index-word bits → ⊥
+Reads-index n w (Some i) = (bits : Index) × ((length bits ≡ n) × (w ≡ index-word bits) × (i ≡ number bits))
+Reads-index n w None = (bits : Index) → length bits ≡ n → w ≡ index-word bits → ⊥
 
 -- the same by its bytes
 unfoldable pub all-bits : List ℕ → Bool
@@ -60,8 +53,8 @@ all-bits (b ∷ bs) = (leb 48 b && leb b 49) && all-bits bs
 abbrev pub is-index : ℕ → List ℕ → Bool
 is-index n w = eqb (length w) n && all-bits w
 
-unfoldable pub bits-of : List ℕ → List Bool
+unfoldable pub bits-of : List ℕ → Index
 bits-of w = map (λ b. eqb b 49) w
 
 abbrev pub index-of : ℕ → List ℕ → Option ℕ
-index-of n w = cond (is-index n w) (Some (index-number (bits-of w))) None
+index-of n w = cond (is-index n w) (Some (number (bits-of w))) None

@@ -13,7 +13,8 @@ use Rattle.std.specs.declared.option.Option.{Option}
 use Rattle.std.specs.declared.option.Option.the-variants.{Some, None}
 use Rattle.text_words.specs.declared.spelling.Section.{Section}
 use Rattle.text_words.specs.Spelling.{section-word, sections, section-of, has}
-use Rattle.text_numbers.specs.Numbers.{index-number, bits-value, all-bits, bits-of, is-index, index-of}
+use Rattle.exact.specs.Indices.{number}
+use Rattle.text_numbers.specs.Numbers.{all-bits, bits-of, is-index, index-of}
 use Rattle.text_numbers.proofs.Options.{none-not-some}
 use Rattle.text_words.proofs.Names.{named-is, has-is, section-named}
 use Rattle.text_grammar.proofs.Spelled.{section-has}
@@ -31,21 +32,21 @@ section-not-told w o s e h = ⊎-elim (λ q. absurd (other o (e ∙ ap section-o
     other (Some x) d g = g (let q : x ≡ s = cc in q)
 
 -- an index word is told with its number, and no other word is
-pub index-told : (n : ℕ) (w : List ℕ) (i : ℕ) → Some i ≡ index-of n w → (is-index n w ≡ true) × (i ≡ index-number (bits-of w))
+pub index-told : (n : ℕ) (w : List ℕ) (i : ℕ) → Some i ≡ index-of n w → (is-index n w ≡ true) × (i ≡ number (bits-of w))
 index-told n w i e =
     ⊎-elim
-    (λ h. let s : Some i ≡ Some (index-number (bits-of w)) = e ∙ cond-true _ _ _ h in (h, let q : i ≡ index-number (bits-of w) = cc in q))
+    (λ h. let s : Some i ≡ Some (number (bits-of w)) = e ∙ cond-true _ _ _ h in (h, let q : i ≡ number (bits-of w) = cc in q))
     (λ h. absurd (none-not-some i (sym (e ∙ cond-false _ _ _ h))))
     (cases-bool (is-index n w))
 
 pub no-index : (n : ℕ) (w : List ℕ) → None ≡ index-of n w → is-index n w ≡ false
-no-index n w e = ⊎-elim (λ h. absurd (none-not-some (index-number (bits-of w)) (e ∙ cond-true _ _ _ h))) (λ h. h) (cases-bool (is-index n w))
+no-index n w e = ⊎-elim (λ h. absurd (none-not-some (number (bits-of w)) (e ∙ cond-true _ _ _ h))) (λ h. h) (cases-bool (is-index n w))
 
 -- of one bit, the number is 1 where the byte is
-bit-number : (w : List ℕ) → is-index 1 w ≡ true → eqb (getD w 0 0) 49 ≡ eqb (index-number (bits-of w)) 1
-unfolding all-bits bits-of bits-value
+bit-number : (w : List ℕ) → is-index 1 w ≡ true → eqb (getD w 0 0) 49 ≡ eqb (number (bits-of w)) 1
+unfolding all-bits bits-of number
 bit-number [] h = absurd (let z : _≡_ {A = ℕ} 0 1 = cc in let b : ⊥ = omega arith in b)
-bit-number (x ∷ []) h = elim (eqb x 49) as (λ b. b ≡ eqb (0 + cond b 1 0) 1) [ true ↦ refl | false ↦ refl ]
+bit-number (x ∷ []) h = elim (eqb x 49) as (λ b. b ≡ eqb (cond b 1 0 + 0) 1) [ true ↦ refl | false ↦ refl ]
 bit-number (x ∷ (y ∷ v)) h =
     let l = eqb-true (length (x ∷ (y ∷ v))) 1 (and-parts (eqb (length (x ∷ (y ∷ v))) 1) (all-bits (x ∷ (y ∷ v))) h .0) in
     absurd (let b : ⊥ = omega (arith, l) in b)

@@ -10,7 +10,7 @@ use Rattle.text_reader.specs.declared.reader.Reader.{Reader}
 use Rattle.text_reader.specs.declared.fault.TextFault.{TextFault}
 use Rattle.text_reader.specs.Reading.{text-of, rest}
 use Rattle.text_words.specs.declared.spelling.CountRange.{CountRange}
-use Rattle.text_numbers.specs.Numbers.{index-number}
+use Rattle.exact.specs.Indices.{number}
 use Rattle.text_grammar.specs.Circuits as circuit
 use Rattle.text_grammar.specs.Circuits.Question.{amp, weight, same}
 use Rattle.text_grammar.specs.Syntaxes.{Syntax, read}
@@ -49,7 +49,7 @@ abbrev pub Many : {A U : Type 0} → ℕ → U → List A → Type 0
 Many total u xs = length xs ≡ total
 
 abbrev pub Is-index : ℕ → List Bool → Type 0
-Is-index u bits = u ≡ index-number bits
+Is-index u bits = u ≡ number bits
 
 -- four places, of which those after the numbers are 0
 abbrev pub Is-numbers : List ℕ → List ℕ → Type 0

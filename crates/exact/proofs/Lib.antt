@@ -1,0 +1,15 @@
+pub mod Integers
+pub mod Ring
+pub mod Expressions
+pub mod Sums
+pub mod Indices
+pub mod Listings
+pub mod Tables
+pub mod Roots
+pub mod Division
+pub mod NormalForms
+pub mod Widths
+pub mod Squares
+pub mod Halves
+pub mod Shares
+pub mod Comparison

@@ -1,0 +1,7 @@
+pub mod Small
+pub mod Computed
+pub mod Table
+pub mod Multiplied
+pub mod Columns
+pub mod Registers
+pub mod Weights

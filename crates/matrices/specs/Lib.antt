@@ -1,0 +1,5 @@
+pub mod Gates
+pub mod Registers
+pub mod Products
+pub mod Laws
+pub mod Examples
