@@ -1,10 +1,9 @@
 -- The lines of a text that has passed the form check, from where a reader stands.
 use mathlib.Core.Path.{_≡_, refl, sym, ap, subst, _∙_}
-use mathlib.Core.Bool.{true, false, _&&_}
+use mathlib.Core.Bool.{true}
 use mathlib.Core.List.{List, [], _∷_, _++_, append-assoc, map}
 use Prim.Native.Nat.{ℕ, _+_, _-_, _≤_, suc, zero}
 use native.Mathlib.Omega.{arith}
-use native.Mathlib.Numerals.{add-one}
 use lib.Dec.{eqb}
 use lib.ListN.{length, drop}
 use Rattle.std.specs.Written.{decimal}
@@ -23,11 +22,10 @@ use Rattle.text_reader.specs.Reading.{text-of, rest, standing}
 use Rattle.text_reader.proofs.Runs.{all-of, all-append, run-whole}
 use Rattle.text_reader.proofs.Spots.{word-on-line, line-passed}
 use Rattle.text_reader.proofs.Standing.{standing-moved, standing-line}
-use Rattle.text_words.specs.declared.spelling.Section.the-variants.{Qubits, Opens, Steps, Reads}
-use Rattle.text_numbers.specs.Numbers.{Small, bit-byte, index-word}
+use Rattle.text_numbers.specs.Numbers.{Small, index-word}
 use Rattle.text_words.specs.declared.spelling.QuestionWord.the-variants.{Amp, Weight, Same}
-use Rattle.text_words.specs.Spelling.{range-of, section-word, step-word, question-word}
-use Rattle.text_grammar.specs.Circuits.{Circuit, Line, In-range, Within, line-tail, line-bytes, section-line, opening-line, step-line, question-line, lines-of, written, Fits-question}
+use Rattle.text_words.specs.Spelling.{section-word, step-word, question-word}
+use Rattle.text_grammar.specs.Circuits.{Circuit, Line, In-range, line-tail, line-bytes, section-line, opening-line, step-line, question-line, lines-of, written, Fits-question}
 use Rattle.text_grammar.specs.Circuits.Question.{amp, weight, same}
 use Rattle.text_grammar.specs.Circuits.Line.{section, opening, step, question}
 use Rattle.text_grammar.specs.Verdicts.{parsed, Accepted, Right}

@@ -1,5 +1,5 @@
 -- The first word of a line tells its kind.
-use mathlib.Core.Path.{_≡_, refl, sym, ap, _∙_}
+use mathlib.Core.Path.{_≡_, refl, ap, _∙_}
 use mathlib.Core.Bool.{true, false, _&&_}
 use mathlib.Core.List.{List, [], _∷_, _++_, append-assoc}
 use Prim.Native.Nat.{ℕ, _≤_, _<_}
@@ -20,9 +20,9 @@ use Rattle.text_words.specs.declared.spelling.StepWord.{StepWord}
 use Rattle.text_words.specs.declared.spelling.StepWord.the-variants.{Gate, Copy, Close}
 use Rattle.text_words.specs.declared.spelling.QuestionWord.the-variants.{Amp, Weight, Same}
 use Rattle.text_words.specs.Spelling.{section-word, step-word, question-word, sections, steps, questions, has, named}
-use Rattle.text_numbers.specs.Numbers.{Small, digit}
+use Rattle.text_numbers.specs.Numbers.{digit}
 use Rattle.text_numbers.proofs.Decimal.{all-digits, decimal-digits}
-use Rattle.text_grammar.specs.Circuits.{Line, line-tail, line-bytes, section-line, opening-line, step-line, question-line, Fits-question}
+use Rattle.text_grammar.specs.Circuits.{Line, line-tail, line-bytes, section-line, opening-line, step-line, question-line}
 use Rattle.text_grammar.specs.Circuits.Question.{amp, weight, same}
 use Rattle.text_grammar.specs.Circuits.Line.{section, opening, step, question}
 use Rattle.text_grammar.proofs.Spelled.{is-word, section-is-word, step-is-word, question-is-word, decimal-is-word}

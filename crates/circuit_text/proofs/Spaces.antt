@@ -1,6 +1,6 @@
 -- Steps of the loop over the spaces of a line.
 use mathlib.Core.Path.{_≡_, refl, ap, _∙_}
-use mathlib.Core.Bool.{Bool, true, false, cond}
+use mathlib.Core.Bool.{true, false, cond}
 use mathlib.Core.List.{List, [], _∷_}
 use Prim.Native.Nat.{ℕ, _+_, _-_, _≤_, _<_, suc, zero}
 use native.Mathlib.Omega.{arith}

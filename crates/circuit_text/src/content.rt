@@ -1,9 +1,7 @@
 //! What the line says before which a reader stands.
 ghost use mathlib.Core.Path.{_≡_};
-ghost use mathlib.Core.List.{List};
-ghost use Prim.Native.Nat.{ℕ, _≤_};
+ghost use Prim.Native.Nat.{_≤_};
 ghost use Rattle.text_grammar.specs.Circuits as circuit;
-ghost use Rattle.text_reader.specs.Reading.{rest};
 ghost use Rattle.circuit_text.specs.Lines.{kind-of, Before-line, Content-read};
 use crate::line::Content;
 use crate::line::Kind;

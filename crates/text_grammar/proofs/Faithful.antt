@@ -1,6 +1,6 @@
 -- A phrase reads just what is spelled, both ways: phrases built up from words.
 use mathlib.Core.Path.{_≡_, refl, sym, ap, subst, _∙_}
-use mathlib.Core.Bool.{Bool, true, false, cond, _&&_}
+use mathlib.Core.Bool.{Bool, true, false, cond}
 use mathlib.Core.List.{List, [], _∷_, _++_, append-assoc}
 use Prim.Native.Nat.{ℕ, suc, zero}
 use native.Mathlib.Omega.{arith}
@@ -9,7 +9,6 @@ use lib.ListN.{length}
 use Rattle.std.specs.Joined.{joined}
 use Rattle.std.specs.shelf.Lists.{All}
 use Rattle.std.proofs.shelf.Tests.{eqb-true, eq-eqb}
-use Rattle.std.specs.declared.result.Result.{Result}
 use Rattle.std.specs.declared.result.Result.the-variants.{Ok, Err}
 use Rattle.text_reader.specs.Tokens.{word-byte, first-word, past-word}
 use Rattle.text_reader.proofs.Runs.{run-whole, past-whole, split-run}
@@ -17,7 +16,7 @@ use Rattle.text_grammar.specs.Circuits.{Circuit}
 use Rattle.text_grammar.specs.Syntaxes.{Syntax, Verdict, Reading, read, judged, several}
 use Rattle.text_grammar.specs.Syntaxes.Syntax.{finish, byte, word}
 use Rattle.text_grammar.specs.Syntaxes.Verdict.{fits, wrong, beyond}
-use Rattle.text_grammar.specs.Syntaxes.Stop.{unexpected, out-of-range}
+use Rattle.text_grammar.specs.Syntaxes.Stop.{unexpected}
 use Rattle.text_grammar.proofs.Spelled.{Delimited, is-word}
 
 pub err-not-ok : {X E : Type 0} (e : E) (x : X) → Err e ≡ Ok x → ⊥

@@ -9,7 +9,6 @@ use Rattle.std.specs.Written.{decimal}
 use Rattle.std.proofs.shelf.Tests.{eqb-true, and-from, le-leb}
 use Rattle.std.specs.declared.option.Option.{Option}
 use Rattle.std.specs.declared.option.Option.the-variants.{Some, None}
-use Rattle.std.specs.declared.result.Result.{Result}
 use Rattle.std.specs.declared.result.Result.the-variants.{Ok, Err}
 use Rattle.text_reader.specs.Tokens.{word-byte, first-word, past-word, token}
 use Rattle.text_reader.proofs.Runs.{run-whole, split-run, run-all, past-ends}

@@ -81,10 +81,6 @@ open-section r s example k o =
       λ w m e. absurd (when-near _ m e),
     )
 
-open-spaced : (k : ℕ → Syntax) → Ready k → Open (spaced-number k)
-unfolding Open spaced-number
-open-spaced k o = open-number k o
-
 open-numbers : (m : ℕ) (k : List ℕ → Syntax) → Ready k → Parted (several spaced-number m k) × Open (several spaced-number m k)
 unfolding several spaced-number Open
 open-numbers zero k o = o []

@@ -2,7 +2,7 @@
 use mathlib.Core.Path.{_≡_, refl, sym, ap, _∙_}
 use mathlib.Core.Bool.{Bool, true, false, cond, _&&_}
 use mathlib.Core.List.{List, [], _∷_, _++_, append-assoc, map}
-use Prim.Native.Nat.{ℕ, _≤_, _<_}
+use Prim.Native.Nat.{ℕ}
 use native.Mathlib.Omega.{arith}
 use lib.Dec.{eqb, leb}
 use lib.ListN.{length, getD}
@@ -18,7 +18,6 @@ use Rattle.text_reader.specs.Tokens.{word-byte, first-word, past-word}
 use Rattle.text_reader.proofs.Runs.{split-run}
 use Rattle.text_words.specs.declared.spelling.Section.{Section}
 use Rattle.text_words.specs.declared.spelling.CountRange.{CountRange}
-use Rattle.text_words.specs.declared.spelling.StepWord.{StepWord}
 use Rattle.text_words.specs.declared.spelling.StepWord.the-variants.{Close}
 use Rattle.text_words.specs.declared.spelling.QuestionWord.{QuestionWord}
 use Rattle.text_words.specs.declared.spelling.QuestionWord.the-variants.{Amp, Weight, Same}

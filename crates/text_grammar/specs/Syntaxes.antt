@@ -72,9 +72,6 @@ otherwise d (Some a) = a
 otherwise d None = d
 
 -- phrases: each is given what is wanted after it, of the value that it reads
-abbrev pub one-byte : ℕ → Syntax → Syntax
-one-byte b k = byte b k
-
 abbrev pub space : Syntax → Syntax
 space k = byte 32 k
 

@@ -1,10 +1,10 @@
 -- A word that reads as a basis index writes its bits, and each row of bits reads as its index.
-use mathlib.Core.Path.{_≡_, refl, sym, ap, subst, _∙_}
+use mathlib.Core.Path.{_≡_, refl, sym, ap, _∙_}
 use mathlib.Core.Logic.{⊎-elim}
 use mathlib.Core.Bool.{Bool, true, false, cond, _&&_}
 use mathlib.Core.List.{List, [], _∷_}
 use Prim.Native.Nat.{ℕ, _+_, _*_, _^_, _≤_, _<_, suc}
-use native.Mathlib.Nat.{add-mul, mul-assoc, mul-comm, pow-succ', pow-le-pow-right}
+use native.Mathlib.Nat.{add-mul, mul-assoc, mul-comm, pow-succ'}
 use native.Mathlib.Numerals.{add-one}
 use native.Mathlib.Omega.{arith}
 use lib.Dec.{eqb, leb}
@@ -70,10 +70,6 @@ bits-more w i v b r h e = record {
     byte-counts : (x : Bool) → bits-value (2 * v + cond (eqb (bit-byte x) 49) 1 0) (bits-of (drop (i + 1) w)) ≡ bits-value (2 * v + cond x 1 0) (bits-of (drop (i + 1) w))
     byte-counts true = refl
     byte-counts false = refl
-
--- its value fits at sixteen bits
-pub bits-room : (w : List ℕ) (i v : ℕ) → Bits-read w i v → i ≤ 15 → v < 32768
-bits-room w i v r h = let p : 2 ^ i ≤ 2 ^ 15 = pow-le-pow-right {n = 2} (omega arith) h in omega (arith, r .small)
 
 pub bits-stop : (w : List ℕ) (i v n : ℕ) → Bits-read w i v → i < length w → (leb 48 (getD w i 0) && leb (getD w i 0) 49) ≡ false → None ≡ index-of n w
 bits-stop w i v n r h e =

@@ -1,12 +1,10 @@
 -- What a reader's moves make of a syntax.
 use mathlib.Core.Path.{_≡_, refl, sym, ap, _∙_}
-use mathlib.Core.Bool.{Bool, true, false, cond}
 use mathlib.Core.Logic.{⊎-elim}
 use mathlib.Core.List.{List, [], _∷_}
 use Prim.Native.Nat.{ℕ}
 use lib.Dec.{eqb}
 use Rattle.std.proofs.shelf.Tests.{eq-eqb, eqb-true, cond-true, cond-false, cases-bool}
-use Rattle.std.specs.declared.result.Result.{Result}
 use Rattle.std.specs.declared.result.Result.the-variants.{Ok, Err}
 use Rattle.text_reader.specs.declared.reader.Reader.{Reader}
 use Rattle.text_reader.specs.declared.word.Word.{Word}
@@ -19,7 +17,7 @@ use Rattle.text_grammar.specs.Circuits.{Circuit}
 use Rattle.text_grammar.specs.Syntaxes.{Syntax, Verdict, read, judged}
 use Rattle.text_grammar.specs.Syntaxes.Syntax.{finish, byte, word}
 use Rattle.text_grammar.specs.Syntaxes.Verdict.{fits, wrong, beyond}
-use Rattle.text_grammar.specs.Syntaxes.Stop.{unexpected, out-of-range}
+use Rattle.text_grammar.specs.Syntaxes.Stop.{unexpected}
 use Rattle.text_grammar.specs.Verdicts.{place-at, located}
 use Rattle.text_phrases.specs.Reading.{onward, Reached}
 

@@ -10,7 +10,7 @@ use Rattle.text_reader.specs.declared.reader.Reader.{Reader}
 use Rattle.text_reader.specs.declared.fault.TextFault.{TextFault}
 use Rattle.text_reader.specs.Reading.{text-of}
 use Rattle.text_grammar.specs.Syntaxes.{Syntax, several}
-use Rattle.text_phrases.specs.Reading.{onward, Reached, Follows, Many, Is-numbers}
+use Rattle.text_phrases.specs.Reading.{onward, Reached, Follows, Is-numbers}
 
 -- of `total` phrases, i are read, with these values
 pub record Underway {A : Type 0} (phrase : (A → Syntax) → Syntax) (total i : ℕ) (s t : Reader) (got : List A) : Type 0 where

@@ -1,5 +1,4 @@
 //! The phrases of the grammar: each function reads one, or names the first token that does not fit.
-ghost use mathlib.Core.Path.{_≡_};
 ghost use Prim.Native.Nat.{_≤_};
 ghost use Rattle.text_words.specs.Spelling.{range-of};
 ghost use Rattle.text_grammar.specs.Syntaxes as syntax;

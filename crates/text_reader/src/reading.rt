@@ -1,7 +1,6 @@
 //! How a reader moves on.
 ghost use mathlib.Core.Path.{_≡_};
 ghost use mathlib.Core.List.{[]};
-ghost use lib.ListN.{length, take, drop, getD};
 ghost use Rattle.text_reader.specs.Tokens.{first-word, first-line};
 ghost use Rattle.text_reader.specs.Places.{place-after};
 ghost use Rattle.text_reader.specs.Reading.{text-of, rest, standing, first-byte, unexpected-at, Lent, Passed, Ended};

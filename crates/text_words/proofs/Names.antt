@@ -1,7 +1,7 @@
 -- A word that names something is its spelling, and each spelling names what it spells.
 use mathlib.Core.Path.{_≡_, refl, sym, ap, _∙_}
 use mathlib.Core.Logic.{⊎-elim}
-use mathlib.Core.Bool.{true, _&&_}
+use mathlib.Core.Bool.{true}
 use mathlib.Core.List.{List, [], _∷_}
 use Prim.Native.Nat.{ℕ, _+_, suc}
 use native.Mathlib.Nat.{add-zero}
@@ -10,8 +10,7 @@ use lib.Dec.{eqb}
 use lib.ListN.{length, getD}
 use Rattle.std.proofs.shelf.Equals.{ReadsAt, text-from-reads}
 use Rattle.std.proofs.shelf.Tests.{and-parts, eqb-true, cond-true, cond-false, cases-bool}
-use Rattle.std.specs.declared.option.Option.{Option}
-use Rattle.std.specs.declared.option.Option.the-variants.{Some, None}
+use Rattle.std.specs.declared.option.Option.the-variants.{Some}
 use Rattle.gates.specs.declared.Gate.the-variants.{X, Z, H, S, T, Rx, Ry, Cx, Cz, Ccx}
 use Rattle.text_numbers.proofs.Options.{none-not-some}
 use Rattle.text_words.specs.declared.spelling.Section.{Section}

@@ -1,15 +1,15 @@
 use mathlib.Core.Path.{_≡_, sym, subst}
-use mathlib.Core.Bool.{true, false, cond, _&&_}
+use mathlib.Core.Bool.{true, false, _&&_}
 use mathlib.Core.List.{List}
 use Prim.Native.Nat.{ℕ, _+_, _*_}
 use native.Mathlib.Omega.{arith}
-use lib.Dec.{eqb, leb}
-use lib.ListN.{length, getD}
+use lib.Dec.{leb}
+use lib.ListN.{getD}
 use Rattle.std.proofs.shelf.Tests.{cond-false}
 use Rattle.std.proofs.shelf.Ways.{tells}
 use Rattle.std.specs.declared.option.Option.{Option}
 use Rattle.text_numbers.specs.Numbers.{index-of, is-index, Reads-index}
-use Rattle.text_numbers.proofs.Indices.{Bits-read, bits-none, bits-more, bits-room, bits-stop, bits-all, reads-index}
+use Rattle.text_numbers.proofs.Indices.{Bits-read, bits-none, bits-more, bits-stop, bits-all, reads-index}
 use Rattle.text_numbers.proofs.basis_index.Needs as need
 use Rattle.text_numbers.proofs.basis_index.Needs.{in-48, in-49}
 

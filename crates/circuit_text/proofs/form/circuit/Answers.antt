@@ -1,6 +1,4 @@
-use mathlib.Core.Path.{_≡_, sym, ap, _∙_}
-use Rattle.std.specs.declared.result.Result.the-variants.{Ok}
-use Rattle.circuit_text.specs.Forms.{form-read, form-of}
+use mathlib.Core.Path.{_∙_}
 use Rattle.text_phrases.proofs.Moves.{ended-on, ended-stuck}
 use Rattle.text_phrases.proofs.Exits.{exact}
 use Rattle.circuit_text.proofs.Exits.{form-stuck, form-all}

@@ -1,9 +1,7 @@
-use mathlib.Core.Path.{_≡_, ap}
-use mathlib.Core.Bool.{true, false}
+use mathlib.Core.Path.{ap}
 use Prim.Native.Nat.{_+_}
 use native.Mathlib.Omega.{arith}
-use lib.Dec.{eqb}
-use lib.ListN.{getD, drop}
+use lib.ListN.{drop}
 use Rattle.std.proofs.shelf.Tests.{eq-eqb, ne-eqb}
 use Rattle.circuit_text.specs.Columns.{after-spaces}
 use Rattle.circuit_text.proofs.Spaces.{spaces-none, spaces-end, space-passed, byte-passed}

@@ -1,9 +1,9 @@
 use mathlib.Core.Path.{_≡_}
 use mathlib.Core.Bool.{true, false}
 use native.Mathlib.Omega.{arith}
-use lib.ListN.{length, getD}
+use lib.ListN.{getD}
 use Rattle.std.proofs.shelf.Ways.{tells}
-use Rattle.text_reader.specs.Tokens.{line-byte, first-line}
+use Rattle.text_reader.specs.Tokens.{line-byte}
 use Rattle.text_reader.proofs.Runs.{run-more, run-stop, run-end, run-cut, run-full}
 use Rattle.text_reader.proofs.word.first_line.Needs as need
 

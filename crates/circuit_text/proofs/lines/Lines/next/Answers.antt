@@ -1,4 +1,4 @@
-use mathlib.Core.Path.{_≡_, refl, sym, ap, _∙_}
+use mathlib.Core.Path.{refl, sym, ap, _∙_}
 use mathlib.Core.List.{[], _∷_, _++_}
 use Rattle.text_reader.specs.Tokens.{first-line}
 use Rattle.text_reader.specs.Reading.{text-of}

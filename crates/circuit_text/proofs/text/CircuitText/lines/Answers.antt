@@ -1,5 +1,4 @@
-use mathlib.Core.Path.{_≡_, sym, ap, _∙_}
-use Rattle.text_reader.specs.Reading.{text-of, rest}
+use mathlib.Core.Path.{ap, _∙_}
 use Rattle.circuit_text.specs.Texts.{passes}
 use Rattle.circuit_text.proofs.Ahead.{passed, all-come, all-ahead}
 use Rattle.circuit_text.proofs.text.CircuitText.lines.Needs as need

@@ -1,5 +1,4 @@
-use mathlib.Core.Path.{_≡_, ap}
-use mathlib.Core.List.{[]}
+use mathlib.Core.Path.{ap}
 use native.Mathlib.Omega.{arith}
 use lib.ListN.{length, length-drop}
 use Rattle.std.proofs.shelf.Lists.{drop-all}
