@@ -59,8 +59,7 @@ passes-checked text form h = go (checked text) h
 
 -- then the text is that of its circuit
 pub record Passed (text : List ℕ) (form : Form) : Type 0 where
-  pub in-range : In-range (circuit-in text)
-  pub text-of-it : text ≡ written (circuit-in text)
+  pub accepted : Accepted text (circuit-in text)
   pub counts : form ≡ form-of (circuit-in text)
 
 pub passed : (text : List ℕ) (form : Form) → passes text form ≡ true → Passed text form
@@ -73,11 +72,11 @@ passed text form h = go (parsed text) refl (passes-checked text form h)
         let q : c ≡ or-nothing (parsed text) = sym (ap or-nothing e) in
         let g : Ok (form-of c) ≡ Ok form = sym (ap with-form e) ∙ f in
         let same : form-of c ≡ form = cc in
-        record { in-range = subst In-range q (a .in-range); text-of-it = a .text-of-it ∙ ap written q; counts = sym same ∙ ap form-of q }
+        record { accepted = subst (Accepted text) q a; counts = sym same ∙ ap form-of q }
     go (Err x) e f = absurd (let g : Err x ≡ Ok form = sym (ap with-form e) ∙ f in let z : _≡_ {A = ℕ} 0 1 = cc in let b : ⊥ = omega arith in b)
 
 pub few-qubits : (text : List ℕ) (form : Form) → Passed text form → form .qubits ≤ 16
-few-qubits text form p = omega (arith, ap (λ (f : Form). f .qubits) (p .counts), p .in-range .qubits-within .1)
+few-qubits text form p = omega (arith, ap (λ (f : Form). f .qubits) (p .counts), p .accepted .in-range .qubits-within .1)
 
 -- every line of a circuit in range fits
 all-append-lists : {A : Type 0} (P : A → Type 0) (xs ys : List A) → All P xs → All P ys → All P (xs ++ ys)
@@ -163,7 +162,7 @@ not-empty n x more f e =
 module _ (s : Reader) (form : Form) (p : Passed (text-of s) form) (ahead : rest s ≡ joined line-bytes (lines-from (text-of s) (standing s))) where
   fits-ahead : All (Fits-line (form .qubits)) (lines-from (text-of s) (standing s))
   unfolding lines-from
-  fits-ahead = subst (λ n. All (Fits-line n) (drop (standing s .line - 1) (lines-of (circuit-in (text-of s))))) (sym (ap (λ (f : Form). f .qubits) (p .counts))) (all-drop _ (standing s .line - 1) (lines-of (circuit-in (text-of s))) (lines-fit (circuit-in (text-of s)) (p .in-range)))
+  fits-ahead = subst (λ n. All (Fits-line n) (drop (standing s .line - 1) (lines-of (circuit-in (text-of s))))) (sym (ap (λ (f : Form). f .qubits) (p .counts))) (all-drop _ (standing s .line - 1) (lines-of (circuit-in (text-of s))) (lines-fit (circuit-in (text-of s)) (p .accepted .in-range)))
 
   pub none-ahead : rest s ≡ [] → lines-from (text-of s) (standing s) ≡ []
   none-ahead e = go (lines-from (text-of s) (standing s)) fits-ahead (sym ahead ∙ e)
@@ -217,4 +216,4 @@ all-come text s whole start = (λ i. drop (start i .line - 1) (lines-of (circuit
 
 pub all-ahead : (text : List ℕ) (form : Form) (s : Reader) → Passed text form → text-of s ≡ text → rest s ≡ text → standing s ≡ place-after [] → rest s ≡ joined line-bytes (lines-from (text-of s) (standing s))
 unfolding written
-all-ahead text form s p whole left start = left ∙ p .text-of-it ∙ ap (joined line-bytes) (sym (all-come text s whole start))
+all-ahead text form s p whole left start = left ∙ p .accepted .text-of-it ∙ ap (joined line-bytes) (sym (all-come text s whole start))

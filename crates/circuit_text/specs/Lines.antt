@@ -14,6 +14,7 @@ use Rattle.text_words.specs.declared.spelling.Section.{Section}
 use Rattle.text_words.specs.Spelling.{range-of, section-of, step-of, question-of}
 use Rattle.text_grammar.specs.Circuits as circuit
 use Rattle.text_grammar.specs.Circuits.Line.{section, opening, step, question}
+use Rattle.text_grammar.specs.Verdicts.{Accepted}
 use Rattle.text_phrases.specs.Reading.{Is-opening, Is-step, Is-question}
 use Rattle.circuit_text.specs.declared.line.Kind.{Kind}
 use Rattle.circuit_text.specs.declared.line.Kind.the-variants.{Section as SectionKind, Step as StepKind, Question as QuestionKind, Opening as OpeningKind}
@@ -85,9 +86,10 @@ abbrev pub Next : Lines → Lines → Option Line → Type 0
 Next s t (Some given) = Line-given s t given
 Next s t None = (to-come s ≡ []) × (t ≡ s)
 
--- all lines of a text are still to come
+-- all lines of the circuit whose text it is are still to come
 pub record All-to-come (text : List ℕ) (s : Lines) : Type 0 where
   pub same : text-of (s .reader) ≡ text
+  pub circuit-of-text : Accepted text (circuit-in text)
   pub all : to-come s ≡ circuit.lines-of (circuit-in text)
 
 -- a text that passes the form check is kept with its form, and any other is answered by its fault

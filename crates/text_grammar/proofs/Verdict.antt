@@ -72,7 +72,12 @@ right text = whole (ltb 16384 (length text)) refl
         let same : f .before ≡ b .before = append-cancel-right (f .before) (b .before) rest (sym (f .whole) ∙ b .whole) in
         record {
           no-text = not-text text (unexpected rest) e;
-          says = (rest, (refl, (misfit text rest b, λ more q t. f .cannot more q (t .0, []) (ap (λ x. read (circuit-within any-count) (x ++ more)) same ∙ ap (read (circuit-within any-count)) (t .2) ∙ circuit-complete any-count any-writable (t .0) (t .1)))));
+          says = record {
+            rest = rest;
+            begins = refl;
+            misfit = misfit text rest b;
+            whatever-counts = λ more q t. f .cannot more q (t .0, []) (ap (λ x. read (circuit-within any-count) (x ++ more)) same ∙ ap (read (circuit-within any-count)) (t .2) ∙ circuit-complete any-count any-writable (t .0) (t .1));
+          };
         }
     answer (Err (out-of-range n rest)) e l =
         let h = count-there circuit text n rest strict-open e in
@@ -82,7 +87,12 @@ right text = whole (ltb 16384 (length text)) refl
         let s = circuit-sound any-count any-writable (b .before ++ f .more) (f .found) (ap (λ x. read (circuit-within any-count) (x ++ f .more)) (sym same) ∙ f .goes) in
         record {
           no-text = not-text text (out-of-range n rest) e;
-          says = (rest, (count-token rest n (h .0) (h .1), (misfit text rest b, (f .more, (f .there, (f .found .0, s .0, s .1))))));
+          says = record {
+            rest = rest;
+            there = count-token rest n (h .0) (h .1);
+            misfit = misfit text rest b;
+            with-any-count = (f .more, (f .there, (f .found .0, s .0, s .1)));
+          };
         }
 
     whole : (q : Bool) → ltb 16384 (length text) ≡ q → Right text (cond q (Err (TooLong (length text))) (circuit-read (located text (read circuit text))))

@@ -43,11 +43,25 @@ pub record Misfit (text : List ℕ) (place : Place) (rest : List ℕ) : Type 0 w
   pub can : (more : List ℕ) × Circuit-text (before ++ more)
   pub cannot : (more : List ℕ) → token more ≡ token rest → Circuit-text (before ++ more) → ⊥
 
--- what a fault says: there are too many bytes; the token at the place fits in no text, whatever counts sections may have; or it is a count, and only its range keeps it out
+-- the token at a place, which begins with this byte, fits in no text, whatever counts the sections may have
+pub record No-such-token (text : List ℕ) (byte : ℕ) (place : Place) : Type 0 where
+  pub rest : List ℕ
+  pub begins : byte ≡ first-byte rest
+  pub misfit : Misfit text place rest
+  pub whatever-counts : (more : List ℕ) → token more ≡ token rest → Text-within any-count (misfit .before ++ more) → ⊥
+
+-- the token at a place is this count, and it would fit if sections might have any count
+pub record Count-out-of-range (text : List ℕ) (count : ℕ) (place : Place) : Type 0 where
+  pub rest : List ℕ
+  pub there : token rest ≡ decimal count
+  pub misfit : Misfit text place rest
+  pub with-any-count : (more : List ℕ) × ((token more ≡ token rest) × Text-within any-count (misfit .before ++ more))
+
+-- what a fault says
 abbrev pub Fault-says : List ℕ → TextFault → Type 0
 Fault-says text (TooLong n) = (n ≡ length text) × (16384 < n)
-Fault-says text (Unexpected b place) = (rest : List ℕ) × ((b ≡ first-byte rest) × ((h : Misfit text place rest) × ((more : List ℕ) → token more ≡ token rest → Text-within any-count (h .before ++ more) → ⊥)))
-Fault-says text (OutOfRange n place) = (rest : List ℕ) × ((token rest ≡ decimal n) × ((h : Misfit text place rest) × ((more : List ℕ) × ((token more ≡ token rest) × Text-within any-count (h .before ++ more)))))
+Fault-says text (Unexpected b place) = No-such-token text b place
+Fault-says text (OutOfRange n place) = Count-out-of-range text n place
 
 -- a text is refused: no circuit text of at most 16,384 bytes is, and the fault is true of it
 pub record Refused (text : List ℕ) (fault : TextFault) : Type 0 where

@@ -18,4 +18,4 @@ ghost-result c =
 pub returns : need.returns
 returns c =
     let same = c .new .ensures .same ∙ c .deref .ensures .value in
-    record { same = same; all = all-come _ (c .new .result) same (c .new .ensures .start) }
+    record { same = same; circuit-of-text = passed _ (c .args .self .now .form) (c .args .self .now .passed) .accepted; all = all-come _ (c .new .result) same (c .new .ensures .start) }
