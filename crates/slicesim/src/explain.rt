@@ -1,4 +1,5 @@
 //! How a refusal is told.
+use circuit_text::MAX_BYTES;
 use std::io;
 use text_reader::Place;
 use text_reader::TextFault;
@@ -9,7 +10,7 @@ pub(crate) fn refuse(rt: &LibcRuntime, fault: TextFault) -> io::Result<()> {
     let Place { line, column } = fault.place();
     println!(rt, "refused {number} {line} {column}")?;
     match fault {
-        TextFault::TooLong { .. } => eprintln!(rt, "The text has more than 16384 bytes."),
+        TextFault::TooLong { .. } => eprintln!(rt, "The text has more than {MAX_BYTES} bytes."),
         TextFault::Unexpected { byte, .. } => {
             eprint!(
                 rt,

@@ -1,4 +1,5 @@
 //! What the program is asked to do, and the text that it is given.
+use circuit_text::MAX_BYTES;
 use std::env;
 use std::error::AnyError;
 use std::fs::File;
@@ -6,7 +7,7 @@ use std::io;
 use std::io::Read;
 
 /// One byte more than a circuit text may have: enough to see that a text is too long.
-const MOST_BYTES: u64 = 16385;
+const MOST_BYTES: u64 = MAX_BYTES as u64 + 1;
 
 #[derive(Drop)]
 pub(crate) enum Request {
