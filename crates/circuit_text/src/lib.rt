@@ -12,4 +12,5 @@ pub use form::check_form;
 pub use line::Content;
 pub use line::Line;
 pub use lines::Lines;
+pub use reading::LinesIterator;
 pub use text::CircuitText;

@@ -1,9 +1,10 @@
 //! How a circuit text is checked, and its lines are read.
 ghost use mathlib.Core.Path.{_≡_};
+ghost use lib.ListN.{length};
 ghost use Rattle.std.specs.Of.Vec.{vec-items};
 ghost use Rattle.std.specs.declared.result.Result.the-variants.{Ok};
 ghost use Rattle.circuit_text.specs.Forms.{checked};
-ghost use Rattle.circuit_text.specs.Lines.{Kept, All-to-come, Next};
+ghost use Rattle.circuit_text.specs.Lines.{Kept, All-to-come, to-come, Next};
 use crate::content::content;
 use crate::form::Form;
 use crate::form::check_form;
@@ -40,11 +41,16 @@ impl CircuitText {
     }
 }
 
-impl<'a> Lines<'a> {
-    /// The next line, or none after the last.
-    pub fn next(&mut self) -> Option<Line<'a>>
-        ensures { λ r. ⌜ Next (now (self .entry)) (now (self .exit)) r ⌝ }
-    {
+pub impl<'a> Iterator for Lines<'a> as LinesIterator {
+    type Item = Line<'a>;
+
+    ghost steps = { λ s r t. Next s t r };
+
+    ghost ends = { λ _. Unit {0} };
+
+    ghost left = { λ s. length (to-come s) };
+
+    fn next(&mut self) -> Option<Line<'a>> {
         if let Ok(()) = self.reader.end() {
             return None;
         }

@@ -2,6 +2,7 @@
 use circuit_text::CircuitText;
 use circuit_text::Content;
 use circuit_text::Line;
+use circuit_text::LinesIterator;
 use std::error::AnyError;
 use std::io;
 use std::io::Read;
@@ -20,9 +21,7 @@ fn run(rt: &LibcRuntime) -> Result<(), AnyError> {
     let Ok(circuit) = CircuitText::check(bytes) else {
         return Err("this is no circuit text".into());
     };
-    let mut lines = circuit.lines();
-    for _ in 0..u64::MAX {
-        let Some(line) = lines.next() else { break };
+    for line in circuit.lines() {
         show(rt, line.content)?;
         places(rt, line)?;
     }
