@@ -13,7 +13,7 @@ use Rattle.exact.specs.States.{State, state, amplitude-at, width}
 use Rattle.exact.specs.Squares.{outcome, weight}
 use Rattle.exact.specs.Texts.{amplitude-text, weight-text}
 use Rattle.gates.specs.declared.Gate.{Gate}
-use Rattle.gates.specs.declared.Gate.the-variants.{Z, H, T, Rx, Ry, Cx}
+use Rattle.gates.specs.declared.Gate.the-variants.{X, Z, H, S, T, Rx, Ry, Cx, Cz, Ccx}
 use Rattle.matrices.specs.Registers.{Move, register}
 
 abbrev pub on-0 : Gate → Move
@@ -21,6 +21,12 @@ on-0 g = record { gate = g; qubits = 0 ∷ [] }
 
 abbrev pub cx-0-1 : Move
 cx-0-1 = record { gate = Cx; qubits = 0 ∷ (1 ∷ []) }
+
+abbrev pub cz-0-1 : Move
+cz-0-1 = record { gate = Cz; qubits = 0 ∷ (1 ∷ []) }
+
+abbrev pub ccx-0-1-2 : Move
+ccx-0-1-2 = record { gate = Ccx; qubits = 0 ∷ (1 ∷ (2 ∷ [])) }
 
 -- one or two qubits, opened at i and led through gates
 abbrev pub one-qubit : ℕ → List Gate → State
@@ -62,6 +68,12 @@ pub record Examples : Type 0 where
   pub rx : one-qubit 0 (Rx ∷ []) ≡ state 1 (𝟏 ∷ (quadruple (pos 0) −1 (pos 0) (pos 0) ∷ []))
   pub ry : one-qubit 1 (Ry ∷ []) ≡ state 1 (−𝟏 ∷ (𝟏 ∷ []))
   pub cx : two-qubits 2 (cx-0-1 ∷ []) ≡ state 0 (𝟎 ∷ (𝟎 ∷ (𝟎 ∷ (𝟏 ∷ []))))
+  -- every gate that the rows above leave out: x, s and t on one qubit, cz on 11, ccx on 110
+  pub x : one-qubit 0 (X ∷ []) ≡ state 0 (𝟎 ∷ (𝟏 ∷ []))
+  pub s : one-qubit 1 (S ∷ []) ≡ state 0 (𝟎 ∷ (quadruple (pos 0) (pos 1) (pos 0) (pos 0) ∷ []))
+  pub t : one-qubit 1 (T ∷ []) ≡ state 0 (𝟎 ∷ (quadruple (pos 0) (pos 0) (pos 1) (pos 0) ∷ []))
+  pub cz : two-qubits 3 (cz-0-1 ∷ []) ≡ state 0 (𝟎 ∷ (𝟎 ∷ (𝟎 ∷ (−𝟏 ∷ []))))
+  pub ccx : register 3 (bits 3 6) (ccx-0-1-2 ∷ []) ≡ state 0 (𝟎 ∷ (𝟎 ∷ (𝟎 ∷ (𝟎 ∷ (𝟎 ∷ (𝟎 ∷ (𝟎 ∷ (𝟏 ∷ []))))))))
   pub bell : bell-pair ≡ state 1 (𝟏 ∷ (𝟎 ∷ (𝟎 ∷ (𝟏 ∷ []))))
   -- as they are written
   pub bell-amplitude : amplitude-text (amplitude-at bell-pair 3) ≡ codes "0 0 0 1 1"
