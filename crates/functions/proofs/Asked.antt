@@ -103,8 +103,8 @@ unfolding Made
 made-setting v w asked (Ok h) m = m .grew .setting
 made-setting v w asked (Err d) m = ap (λ (x : Meaning). x .setting) (m .unchanged)
 
--- a combination of known functions in a store that has the qubits of v
-pub combination : (v u w : Meaning) (rule f g h : ℕ) (s t x : Table) (r : Result ℕ StoreFault) → u .setting ≡ v .setting → under u f ≡ Some s → under u g ≡ Some t → under u h ≡ Some x → Made u w (combine-asked u rule f g h) r → Built u w (combined (qubits-of v) rule s t x ∷ []) r (λ k. under w k ≡ Some (combined (qubits-of v) rule s t x))
-combination v u w rule f g h s t x r e a b c m =
-    made-built u w (combine-asked u rule f g h) (combined (qubits-of v) rule s t x) r
-    (combine-known u rule f g h s t x a b c ∙ ap (λ (z : Setting). Ok (combined (z .qubits) rule s t x)) e) m
+-- a combination of known functions, in a store with the setting of v, builds the plan of what they make
+pub combination : (v u w : Meaning) (rule f g h : ℕ) (s t x y : Table) (r : Result ℕ StoreFault) → u .setting ≡ v .setting → under u f ≡ Some s → under u g ≡ Some t → under u h ≡ Some x → combined (qubits-of v) rule s t x ≡ y → Made u w (combine-asked u rule f g h) r → Built u w (y ∷ []) r (λ k. under w k ≡ Some y)
+combination v u w rule f g h s t x y r e a b c d m =
+    made-built u w (combine-asked u rule f g h) y r
+    (combine-known u rule f g h s t x a b c ∙ ap (λ (z : Setting). Ok (combined (z .qubits) rule s t x)) e ∙ ap Ok d) m

@@ -4,3 +4,4 @@ pub mod Meanings
 pub mod Faults
 pub mod Growth
 pub mod Answers
+pub mod Laws

@@ -44,18 +44,20 @@ count-where n p = total _+_ n (λ x. digit (p x))
 unfoldable pub ones : ℕ → Table → ℕ
 ones n f = count-where n (value-at f)
 
--- the combinations that have names: "f chooses g, else h", the odd sum, the carry (at least two of three), all three
-unfoldable pub chosen : ℕ → Table → Table → Table → Table
-chosen n f g h = listing n (λ x. cond (value-at f x) (value-at g x) (value-at h x))
-
+-- whether exactly one of two bits is 1
 abbrev pub differ : Bool → Bool → Bool
 differ a b = cond a (not b) b
 
-unfoldable pub odd-sum : ℕ → Table → Table → Table → Table
-odd-sum n f g h = listing n (λ x. differ (value-at f x) (differ (value-at g x) (value-at h x)))
+-- the combinations that have names: f chooses g, else h (rule 202); the odd sum of three (150); the carry of three, at
+-- least two of them (232); all three (128)
+unfoldable pub choice : ℕ → Table → Table → Table → Table
+choice n f g h = listing n (λ x. cond (value-at f x) (value-at g x) (value-at h x))
 
-unfoldable pub carry : ℕ → Table → Table → Table → Table
-carry n f g h = listing n (λ x. cond (value-at f x) (value-at g x || value-at h x) (value-at g x && value-at h x))
+unfoldable pub parity : ℕ → Table → Table → Table → Table
+parity n f g h = listing n (λ x. differ (value-at f x) (differ (value-at g x) (value-at h x)))
 
-unfoldable pub all-three : ℕ → Table → Table → Table → Table
-all-three n f g h = listing n (λ x. value-at f x && (value-at g x && value-at h x))
+unfoldable pub majority : ℕ → Table → Table → Table → Table
+majority n f g h = listing n (λ x. cond (value-at f x) (value-at g x || value-at h x) (value-at g x && value-at h x))
+
+unfoldable pub conjunction : ℕ → Table → Table → Table → Table
+conjunction n f g h = listing n (λ x. value-at f x && (value-at g x && value-at h x))

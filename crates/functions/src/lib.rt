@@ -5,6 +5,7 @@ ghost use Rattle.functions.specs.Answers.{Made, Kept, literal-asked, fixed-ask
 use exact::Qubit;
 
 mod faults;
+pub mod laws;
 
 pub use faults::Layer;
 pub use faults::StoreFault;
