@@ -1,7 +1,6 @@
 //! A memory of combinations, over any function store.
 ghost use mathlib.Core.Path.{_≡_};
-ghost use mathlib.Core.List.{[], List};
-ghost use Rattle.functions.specs.Meanings.{qubits-of};
+ghost use mathlib.Core.List.{[]};
 ghost use Rattle.functions.specs.Answers.{Made, Kept, literal-asked, fixed-asked, combine-asked};
 ghost use Rattle.memory.specs.Remembering.{Ordered-over, Remembers, Combined-over, Kept-over};
 use exact::Qubit;
@@ -135,10 +134,12 @@ pub impl<S: FunctionStore> FunctionStore for Memory<S> as MemoryStore {
     }
 }
 
-/// The number of qubits of a store under two memories: a memory over a memory is a store too.
-pub fn qubits_below<S: FunctionStore>(store: &Memory<Memory<S>>) -> u32
-    requires { ⌜ Ordered-over (λ s. meaning (s .store)) (Ordered-over meaning ordered) (now store) ⌝ }
-    ensures { λ r. ⌜ r ≡ qubits-of (meaning (now (store .entry) .store .store)) ⌝ }
+/// A memory over a memory, which is a store as well.
+pub fn two_memories<S: FunctionStore>(store: S) -> Memory<Memory<S>>
+    requires { ⌜ ordered store ⌝ }
+    ensures same { λ r. ⌜ r .store .store ≡ store ⌝ }
+    ensures order { λ r. ⌜ Ordered-over (λ s. meaning (s .store)) (Ordered-over meaning ordered) r ⌝ }
+    ensures empty { λ r. ⌜ Remembers r [] × Remembers (r .store) [] ⌝ }
 {
-    store.qubits()
+    Memory::new(Memory::new(store))
 }
