@@ -53,10 +53,10 @@ pub same-handle : (m : Meaning) → Laws m → (j k : ℕ) (f g : Table) → und
 same-handle m laws j k f g a b e = laws .one-handle j k g (a ∙ ap Some e) b
 
 -- the parts of a function that has a handle are held
-pub parts-under : (m : Meaning) (k : ℕ) (f : Table) → Laws m → under m k ≡ Some f → (g : Table) → Part m g f → Holds m g
+pub parts-under : (m : Meaning) (k : ℕ) (f : Table) → Laws m → under m k ≡ Some f → (g : Table) → Part (m .setting) g f → Holds m g
 unfolding among
 parts-under m k f laws e g h = ⊎-elim
-    (λ (c : (b : Bool) × (f ≡ constant (qubits-of m) b)). absurd (false≢true (ap (among g) (sym (ap (m .setting .parts) (c .1) ∙ laws .no-part (c .0))) ∙ h)))
+    (λ (c : (b : Bool) × (f ≡ constant (qubits-of m) b)). absurd (false≢true (ap (among g) (sym (ap (m .setting .parts) (c .1) ∙ laws .setting .no-part (c .0))) ∙ h)))
     (λ (c : Holds m f). laws .parts-held f g c h)
     (under-held m k f e)
 

@@ -4,3 +4,4 @@ pub mod Sets
 pub mod Growth
 pub mod Handles
 pub mod Asked
+pub mod Constants

@@ -8,7 +8,7 @@ use Rattle.std.specs.declared.option.Option.the-variants.{Some}
 use Rattle.exact.specs.Indices.{Index}
 use Rattle.functions.specs.declared.faults.StoreFault.{StoreFault}
 use Rattle.functions.specs.Tables.{Table, value-at, constant, combined, choice, parity, majority, conjunction}
-use Rattle.functions.specs.Meanings.{Meaning, Laws, qubits-of, under}
+use Rattle.functions.specs.Meanings.{Setting, Setting-laws, Meaning, Laws, qubits-of, under, constants-only}
 use Rattle.functions.specs.Growth.{Grew, Exceeds, Stopped}
 
 pub record Rule-laws : Type 0 where
@@ -37,3 +37,5 @@ pub record Handle-laws : Type 0 where
   pub same-handle : (m : Meaning) → Laws m → (j k : ℕ) (f g : Table) → under m j ≡ Some f → under m k ≡ Some g → f ≡ g → j ≡ k
   -- to make a function that has a handle changes nothing
   pub made-again : (m : Meaning) (k : ℕ) (f : Table) → Laws m → under m k ≡ Some f → Grew m m (f ∷ [])
+  -- a store that holds only the constants keeps the laws, if its rule of parts does
+  pub new-store : (s : Setting) → Setting-laws s → Laws (constants-only s)

@@ -41,27 +41,35 @@ functions-of (e ∷ es) = e .1 ∷ functions-of es
 unfoldable pub held : Meaning → List Table
 held m = functions-of (m .entries)
 
--- f is held, besides the constants; g is a part of f
+-- f is held, besides the constants
 abbrev pub Holds : Meaning → Table → Type 0
 Holds m f = among f (held m) ≡ true
 
-abbrev pub Part : Meaning → Table → Table → Type 0
-Part m g f = among g (m .setting .parts f) ≡ true
+-- g is a part of f
+abbrev pub Part : Setting → Table → Table → Type 0
+Part s g f = among g (s .parts f) ≡ true
+
+pub record Setting-laws (s : Setting) : Type 0 where
+  -- from 1 to 16 qubits
+  pub some-qubits : 1 ≤ s .qubits
+  pub few-qubits : s .qubits ≤ 16
+  -- a function that is not constant is one of its own parts, a constant has none, and a part of a part is a part
+  pub own-part : (f : Table) → length f ≡ 2 ^ s .qubits → is-constant (s .qubits) f ≡ false → Part s f f
+  pub no-part : (b : Bool) → s .parts (constant (s .qubits) b) ≡ []
+  pub part-of-part : (f g h : Table) → Part s g f → Part s h g → Part s h f
 
 pub record Laws (m : Meaning) : Type 0 where
-  -- from 1 to 16 qubits
-  pub some-qubits : 1 ≤ qubits-of m
-  pub few-qubits : qubits-of m ≤ 16
+  pub setting : Setting-laws (m .setting)
   -- a handle is a u32, and stands for a function of n qubits
   pub handle-fits : (k : ℕ) (f : Table) → under m k ≡ Some f → k < 2 ^ 32
   pub of-qubits : (k : ℕ) (f : Table) → under m k ≡ Some f → length f ≡ 2 ^ qubits-of m
   -- a function that is held is held under a handle, and under one only
   pub has-handle : (f : Table) → Holds m f → (k : ℕ) × (under m k ≡ Some f)
   pub one-handle : (j k : ℕ) (f : Table) → under m j ≡ Some f → under m k ≡ Some f → j ≡ k
-  -- a function that is not constant is one of its own parts, a constant has none, and a part of a part is a part
-  pub own-part : (f : Table) → length f ≡ 2 ^ qubits-of m → is-constant (qubits-of m) f ≡ false → Part m f f
-  pub no-part : (b : Bool) → m .setting .parts (constant (qubits-of m) b) ≡ []
-  pub part-of-part : (f g h : Table) → Part m g f → Part m h g → Part m h f
   -- the parts of what is held are held, within the limit
-  pub parts-held : (f g : Table) → Holds m f → Part m g f → Holds m g
+  pub parts-held : (f g : Table) → Holds m f → Part (m .setting) g f → Holds m g
   pub within-limit : space (qubits-of m) (held m) ≤ m .setting .limit
+
+-- a store that holds only the constants
+abbrev pub constants-only : Setting → Meaning
+constants-only s = record { setting = s; entries = [] }
