@@ -29,10 +29,8 @@ impl<S: FunctionStore> Memory<S> {
         ensures order { λ r. ⌜ Ordered-over meaning ordered r ⌝ }
         ensures empty { λ r. ⌜ Remembers r [] ⌝ }
     {
-        Memory {
-            store,
-            recent: Recent::new(),
-        }
+        let recent = Recent::new();
+        Memory { store, recent }
     }
 
     /// Passes the call on.

@@ -7,6 +7,6 @@ pub returns : need.returns
 unfolding Remembers
 returns g c = record {
   same = refl;
-  order = record { below = c .pre; right = subst (All (Right (g .S·FunctionStore .meaning (c .args .store)))) (sym (c .new .ensures)) tt };
-  empty = c .new .ensures;
+  order = record { below = c .pre; right = subst (All (Right (g .S·FunctionStore .meaning (c .args .store)))) (sym (c .new-recent .ensures)) tt };
+  empty = c .new-recent .ensures;
 }
