@@ -25,7 +25,7 @@ pub record Grew (v w : Meaning) (fs : List Table) : Type 0 where
 unfoldable pub with-parts : Meaning → List Table → List Table
 with-parts v fs = held v ++ parts-of-all (v .setting .parts) fs
 
--- What is held and the parts of the plan outnumber the limit.
+-- The different functions, constants apart, among what is held and the parts of the plan outnumber the limit.
 unfoldable pub Exceeds : Meaning → List Table → Type 0
 Exceeds v fs = v .setting .limit < space (qubits-of v) (with-parts v fs)
 

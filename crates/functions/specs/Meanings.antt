@@ -25,6 +25,7 @@ pub record Meaning : Type 0 where
 abbrev pub qubits-of : Meaning → ℕ
 qubits-of m = m .setting .qubits
 
+-- the function with the handle k in a list of entries
 unfoldable pub entry : List (ℕ × Table) → ℕ → Option Table
 entry [] k = None
 entry (e ∷ es) k = cond (eqb k (e .0)) (Some (e .1)) (entry es k)
@@ -33,6 +34,7 @@ entry (e ∷ es) k = cond (eqb k (e .0)) (Some (e .1)) (entry es k)
 unfoldable pub under : Meaning → ℕ → Option Table
 under m k = cond (eqb k 0) (Some (constant (qubits-of m) false)) (cond (eqb k 1) (Some (constant (qubits-of m) true)) (entry (m .entries) k))
 
+-- the functions of a list of entries
 unfoldable pub functions-of : List (ℕ × Table) → List Table
 functions-of [] = []
 functions-of (e ∷ es) = e .1 ∷ functions-of es
@@ -49,6 +51,7 @@ Holds m f = among f (held m) ≡ true
 abbrev pub Part : Setting → Table → Table → Type 0
 Part s g f = among g (s .parts f) ≡ true
 
+-- The laws of what no call changes.
 pub record Setting-laws (s : Setting) : Type 0 where
   -- from 1 to 16 qubits
   pub some-qubits : 1 ≤ s .qubits
@@ -58,6 +61,7 @@ pub record Setting-laws (s : Setting) : Type 0 where
   pub no-part : (b : Bool) → s .parts (constant (s .qubits) b) ≡ []
   pub part-of-part : (f g h : Table) → Part s g f → Part s h g → Part s h f
 
+-- The laws of every store in order.
 pub record Laws (m : Meaning) : Type 0 where
   pub setting : Setting-laws (m .setting)
   -- a handle is a u32, and stands for a function of n qubits
