@@ -1,20 +1,21 @@
 -- A store that holds only the constants.
 use Prim.Native.Nat.{ℕ, _^_, _<_, _≤_}
 use native.Mathlib.Omega.{arith}
-use mathlib.Core.Path.{_≡_, refl, sym, ap, _∙_}
+use mathlib.Core.Path.{_≡_, refl, sym, ap, subst, _∙_}
 use mathlib.Core.Bool.{Bool, true, false, cond}
-use mathlib.Core.List.{[]}
-use mathlib.Core.Logic.{_⊎_, inl, inr}
+use mathlib.Core.List.{List, [], _∷_}
+use mathlib.Core.Logic.{_⊎_, inl, inr, ⊎-elim}
 use lib.Dec.{eqb}
 use lib.ListN.{length}
 use Rattle.std.specs.declared.option.Option.{Option}
 use Rattle.std.specs.declared.option.Option.the-variants.{Some, None}
-use Rattle.std.proofs.shelf.Tests.{false≢true, eqb-true}
+use Rattle.std.proofs.shelf.Tests.{false≢true, eqb-true, or-left, or-right, or-cases, cond-true, cond-false}
 use Rattle.exact.specs.Indices.{bits}
+use Rattle.exact.proofs.Indices.{same-self, same-equal}
 use Rattle.exact.proofs.Tables.{length-bits}
 use Rattle.functions.specs.Tables.{Table, value-at, constant}
-use Rattle.functions.specs.Sets.{among, space, different, without-constants}
-use Rattle.functions.specs.Meanings.{Setting, Setting-laws, Meaning, Laws, entry, under, functions-of, held, Holds, constants-only}
+use Rattle.functions.specs.Sets.{same, among, is-constant, space, different, without-constants}
+use Rattle.functions.specs.Meanings.{Setting, Setting-laws, Meaning, Laws, entry, under, functions-of, held, Holds, constants-only, only-itself}
 use Rattle.functions.proofs.Values.{length-constant, constant-at}
 
 -- the two constants are different
@@ -65,3 +66,35 @@ constants-only-lawful s laws = record {
     one j k f (inl p) (inr q) = absurd (constants-apart (s .qubits) (sym (p .1) ∙ q .1))
     one j k f (inr p) (inl q) = absurd (constants-apart (s .qubits) (sym (q .1) ∙ p .1))
     one j k f (inr p) (inr q) = p .0 ∙ sym (q .0)
+
+-- ---- the rule by which a function's only part is itself
+constant-is-constant : (n : ℕ) (b : Bool) → is-constant n (constant n b) ≡ true
+unfolding is-constant
+constant-is-constant n false = or-left (same (constant n false) (constant n false)) (same (constant n false) (constant n true)) (same-self (constant n false))
+constant-is-constant n true = or-right (same (constant n true) (constant n false)) (same (constant n true) (constant n true)) (same-self (constant n true))
+
+-- a part by this rule is the function itself
+part-itself : (n : ℕ) (f g : Table) → among g (only-itself n f) ≡ true → g ≡ f
+unfolding only-itself among
+part-itself n f g h = go (is-constant n f) h
+  where
+    go : (b : Bool) → among g (cond b [] (f ∷ [])) ≡ true → g ≡ f
+    go true h = absurd (false≢true h)
+    go false h = ⊎-elim (λ (e : same g f ≡ true). same-equal g f e) (λ (e : false ≡ true). absurd (false≢true e)) (or-cases (same g f) false h)
+
+itself-part : (n : ℕ) (f : Table) → is-constant n f ≡ false → among f (only-itself n f) ≡ true
+unfolding only-itself among
+itself-part n f e = ap (among f) (cond-false (is-constant n f) [] (f ∷ []) e) ∙ or-left (same f f) false (same-self f)
+
+constant-no-part : (n : ℕ) (b : Bool) → only-itself n (constant n b) ≡ []
+unfolding only-itself
+constant-no-part n b = cond-true (is-constant n (constant n b)) [] (constant n b ∷ []) (constant-is-constant n b)
+
+pub simplest-lawful : (n limit : ℕ) → 1 ≤ n → n ≤ 16 → Setting-laws (record { qubits = n; limit = limit; parts = only-itself n })
+simplest-lawful n limit some few = record {
+  some-qubits = some;
+  few-qubits = few;
+  own-part = λ f l e. itself-part n f e;
+  no-part = constant-no-part n;
+  part-of-part = λ f g h a b. subst (λ (x : Table). among h (only-itself n x) ≡ true) (part-itself n f g a) b;
+}

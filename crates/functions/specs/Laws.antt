@@ -1,5 +1,5 @@
 -- The laws of functions, of making them, and of their handles.
-use Prim.Native.Nat.{ℕ, _^_}
+use Prim.Native.Nat.{ℕ, _^_, _≤_}
 use mathlib.Core.Path.{_≡_}
 use mathlib.Core.Bool.{Bool, false, true}
 use mathlib.Core.List.{List, [], _∷_, _++_}
@@ -8,7 +8,7 @@ use Rattle.std.specs.declared.option.Option.the-variants.{Some}
 use Rattle.exact.specs.Indices.{Index}
 use Rattle.functions.specs.declared.faults.StoreFault.{StoreFault}
 use Rattle.functions.specs.Tables.{Table, value-at, constant, combined, choice, parity, majority, conjunction}
-use Rattle.functions.specs.Meanings.{Setting, Setting-laws, Meaning, Laws, qubits-of, under, constants-only}
+use Rattle.functions.specs.Meanings.{Setting, Setting-laws, Meaning, Laws, qubits-of, under, constants-only, only-itself}
 use Rattle.functions.specs.Growth.{Grew, Exceeds, Stopped}
 
 pub record Rule-laws : Type 0 where
@@ -37,5 +37,9 @@ pub record Handle-laws : Type 0 where
   pub same-handle : (m : Meaning) → Laws m → (j k : ℕ) (f g : Table) → under m j ≡ Some f → under m k ≡ Some g → f ≡ g → j ≡ k
   -- to make a function that has a handle changes nothing
   pub made-again : (m : Meaning) (k : ℕ) (f : Table) → Laws m → under m k ≡ Some f → Grew m m (f ∷ [])
-  -- a store that holds only the constants keeps the laws, if its rule of parts does
+
+pub record New-store-laws : Type 0 where
+  -- a store that holds only the constants keeps the laws, if its setting does
   pub new-store : (s : Setting) → Setting-laws s → Laws (constants-only s)
+  -- and there are such settings
+  pub simplest : (n limit : ℕ) → 1 ≤ n → n ≤ 16 → Setting-laws (record { qubits = n; limit = limit; parts = only-itself n })

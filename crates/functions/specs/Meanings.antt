@@ -77,3 +77,7 @@ pub record Laws (m : Meaning) : Type 0 where
 -- a store that holds only the constants
 abbrev pub constants-only : Setting → Meaning
 constants-only s = record { setting = s; entries = [] }
+
+-- the simplest rule of parts: a function that is not constant is its only part
+unfoldable pub only-itself : ℕ → Table → List Table
+only-itself n f = cond (is-constant n f) [] (f ∷ [])
