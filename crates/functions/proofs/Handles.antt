@@ -17,6 +17,15 @@ use Rattle.functions.specs.Sets.{same, among, parts-of-all}
 use Rattle.functions.specs.Meanings.{Meaning, Laws, qubits-of, entry, under, functions-of, held, Holds, Part}
 use Rattle.functions.specs.Growth.{Grew, Stand-for}
 
+-- the constants have the handles 0 and 1
+pub under-0 : (m : Meaning) → under m 0 ≡ Some (constant (qubits-of m) false)
+unfolding under
+under-0 m = refl
+
+pub under-1 : (m : Meaning) → under m 1 ≡ Some (constant (qubits-of m) true)
+unfolding under
+under-1 m = refl
+
 entry-held : (es : List (ℕ × Table)) (k : ℕ) (f : Table) → entry es k ≡ Some f → among f (functions-of es) ≡ true
 unfolding entry functions-of among
 entry-held [] k f e = absurd (let z : _≡_ {A = ℕ} 0 1 = cc in let b : ⊥ = omega arith in b)
@@ -35,15 +44,6 @@ under-held m k f e = go (eqb k 0) (eqb k 1) e
     go true b e = inl (false, (let q : f ≡ constant (qubits-of m) false = cc in q))
     go false true e = inl (true, (let q : f ≡ constant (qubits-of m) true = cc in q))
     go false false e = inr (entry-held (m .entries) k f e)
-
--- the constants have the handles 0 and 1
-pub under-0 : (m : Meaning) → under m 0 ≡ Some (constant (qubits-of m) false)
-unfolding under
-under-0 m = refl
-
-pub under-1 : (m : Meaning) → under m 1 ≡ Some (constant (qubits-of m) true)
-unfolding under
-under-1 m = refl
 
 -- two held handles are equal exactly if their functions are
 pub same-function : (m : Meaning) (j k : ℕ) (f g : Table) → under m j ≡ Some f → under m k ≡ Some g → j ≡ k → f ≡ g
