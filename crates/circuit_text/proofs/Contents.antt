@@ -14,7 +14,8 @@ use Rattle.text_grammar.proofs.Phrases.{section-reads, opening-reads, step-read
 use Rattle.text_phrases.specs.declared.values.Opening.{Opening}
 use Rattle.text_phrases.specs.declared.values.Step.{Step}
 use Rattle.text_phrases.specs.declared.values.Question.{Question}
-use Rattle.text_phrases.specs.Reading.{Counts, Is-opening, Is-step, Is-question}
+use Rattle.text_fields.specs.Reading.{Counts}
+use Rattle.text_phrases.specs.Values.{Is-opening, Is-step, Is-question}
 use Rattle.circuit_text.specs.declared.line.Kind.the-variants.{Section as SectionKind, Step as StepKind, Question as QuestionKind, Opening as OpeningKind}
 use Rattle.circuit_text.specs.declared.line.Content.the-variants.{Section as SectionLine, Opening as OpeningLine, Step as StepLine, Question as QuestionLine}
 use Rattle.circuit_text.specs.Lines.{Fits-line, Content-read}

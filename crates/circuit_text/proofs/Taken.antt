@@ -13,7 +13,7 @@ use Rattle.text_grammar.specs.Syntaxes.{Syntax, Reading, read}
 use Rattle.text_grammar.specs.Syntaxes.Syntax.{done}
 use Rattle.text_grammar.specs.Verdicts.{located}
 use Rattle.text_grammar.proofs.Faithful.{Faithful, Any, err-not-ok}
-use Rattle.text_phrases.specs.Reading.{onward, Follows}
+use Rattle.text_fields.specs.Reading.{onward, Follows}
 use Rattle.circuit_text.specs.declared.line.Kind.{Kind}
 use Rattle.circuit_text.specs.Lines.{kind-of, Fits-line, Before-line}
 use Rattle.circuit_text.proofs.Heads.{line-kind, kind-told}

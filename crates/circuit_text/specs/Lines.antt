@@ -15,7 +15,7 @@ use Rattle.text_words.specs.Spelling.{range-of, section-of, step-of, question-o
 use Rattle.text_grammar.specs.Circuits as circuit
 use Rattle.text_grammar.specs.Circuits.Line.{section, opening, step, question}
 use Rattle.text_grammar.specs.Verdicts.{Accepted}
-use Rattle.text_phrases.specs.Reading.{Is-opening, Is-step, Is-question}
+use Rattle.text_phrases.specs.Values.{Is-opening, Is-step, Is-question}
 use Rattle.circuit_text.specs.declared.line.Kind.{Kind}
 use Rattle.circuit_text.specs.declared.line.Kind.the-variants.{Section as SectionKind, Step as StepKind, Question as QuestionKind, Opening as OpeningKind}
 use Rattle.circuit_text.specs.declared.line.Content.{Content}

@@ -2,7 +2,7 @@
 ghost use mathlib.Core.Path.{_≡_};
 ghost use Prim.Native.Nat.{_≤_};
 ghost use Rattle.text_grammar.specs.Syntaxes as syntax;
-ghost use Rattle.text_phrases.specs.Reading.{Follows, Many, onward};
+ghost use Rattle.text_fields.specs.Reading.{Follows, Many, onward};
 ghost use Rattle.circuit_text.specs.Forms.{form-read, checked, Form-verdict};
 use text_phrases::opening;
 use text_phrases::question;

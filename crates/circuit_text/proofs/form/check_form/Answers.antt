@@ -7,7 +7,7 @@ use Rattle.std.specs.declared.result.Result.the-variants.{Ok, Err}
 use Rattle.text_reader.specs.declared.fault.TextFault.{TextFault}
 use Rattle.text_grammar.specs.Verdicts.{parsed, located}
 use Rattle.text_grammar.proofs.Verdict.{right}
-use Rattle.text_phrases.specs.Reading.{onward}
+use Rattle.text_fields.specs.Reading.{onward}
 use Rattle.circuit_text.specs.Forms.{checked, with-form, form-read, Form-verdict}
 use Rattle.text_grammar.specs.Syntaxes as syntax
 use Rattle.text_grammar.specs.Circuits.{Circuit}

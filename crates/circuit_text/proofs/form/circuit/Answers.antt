@@ -1,6 +1,6 @@
 use mathlib.Core.Path.{_∙_}
-use Rattle.text_phrases.proofs.Moves.{ended-on, ended-stuck}
-use Rattle.text_phrases.proofs.Exits.{exact}
+use Rattle.text_fields.proofs.Moves.{ended-on, ended-stuck}
+use Rattle.text_fields.proofs.Exits.{exact}
 use Rattle.circuit_text.proofs.Exits.{form-stuck, form-all}
 use Rattle.text_grammar.specs.Syntaxes as syntax
 use Rattle.circuit_text.proofs.form.circuit.Needs as need

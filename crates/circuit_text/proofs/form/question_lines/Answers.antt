@@ -1,8 +1,8 @@
 use mathlib.Core.Path.{_≡_, _∙_}
 use mathlib.Core.List.{[]}
 use native.Mathlib.Omega.{arith}
-use Rattle.text_phrases.proofs.Exits.{follows-stuck}
-use Rattle.text_phrases.proofs.Several.{underway-none, underway-more, underway-stuck, underway-all}
+use Rattle.text_fields.proofs.Exits.{follows-stuck}
+use Rattle.text_fields.proofs.Several.{underway-none, underway-more, underway-stuck, underway-all}
 use Rattle.text_grammar.specs.Syntaxes as syntax
 use Rattle.circuit_text.proofs.form.question_lines.Needs as need
 

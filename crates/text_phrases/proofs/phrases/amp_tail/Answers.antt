@@ -1,7 +1,7 @@
 use mathlib.Core.Path.{sym, ap, _∙_}
 use Rattle.text_grammar.specs.Circuits.Question.{amp}
-use Rattle.text_phrases.proofs.Moves.{passed-on, passed-stuck}
-use Rattle.text_phrases.proofs.Exits.{follows-stuck}
+use Rattle.text_fields.proofs.Moves.{passed-on, passed-stuck}
+use Rattle.text_fields.proofs.Exits.{follows-stuck}
 use Rattle.text_grammar.specs.Syntaxes as syntax
 use Rattle.text_phrases.proofs.phrases.amp_tail.Needs as need
 

@@ -1,6 +1,6 @@
 use mathlib.Core.Path.{_∙_}
-use Rattle.text_phrases.proofs.Moves.{passed-on, passed-stuck}
-use Rattle.text_phrases.proofs.Exits.{follows-stuck}
+use Rattle.text_fields.proofs.Moves.{passed-on, passed-stuck}
+use Rattle.text_fields.proofs.Exits.{follows-stuck}
 use Rattle.text_grammar.specs.Syntaxes as syntax
 use Rattle.text_phrases.proofs.phrases.opening.Needs as need
 

@@ -1,6 +1,6 @@
 use mathlib.Core.Path.{sym, ap, _∙_}
-use Rattle.text_phrases.specs.Reading.{onward}
-use Rattle.text_phrases.proofs.Exits.{follows-stuck, follows-then}
+use Rattle.text_fields.specs.Reading.{onward}
+use Rattle.text_fields.proofs.Exits.{follows-stuck, follows-then}
 use Rattle.text_grammar.specs.Syntaxes as syntax
 use Rattle.text_phrases.proofs.phrases.question.Needs as need
 

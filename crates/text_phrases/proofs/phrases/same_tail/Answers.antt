@@ -1,7 +1,7 @@
 use mathlib.Core.Path.{sym, _∙_}
 use Rattle.text_grammar.specs.Circuits.Question.{same}
-use Rattle.text_phrases.proofs.Moves.{passed-on, passed-stuck}
-use Rattle.text_phrases.proofs.Exits.{follows-stuck}
+use Rattle.text_fields.proofs.Moves.{passed-on, passed-stuck}
+use Rattle.text_fields.proofs.Exits.{follows-stuck}
 use Rattle.text_grammar.specs.Syntaxes as syntax
 use Rattle.text_phrases.proofs.phrases.same_tail.Needs as need
 

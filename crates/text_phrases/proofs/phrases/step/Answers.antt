@@ -1,8 +1,8 @@
 use mathlib.Core.Path.{sym, ap, _∙_}
 use Rattle.text_words.specs.Spelling.{numbers-of}
-use Rattle.text_phrases.specs.Reading.{onward}
-use Rattle.text_phrases.proofs.Moves.{passed-on, passed-stuck}
-use Rattle.text_phrases.proofs.Exits.{follows-stuck}
+use Rattle.text_fields.specs.Reading.{onward}
+use Rattle.text_fields.proofs.Moves.{passed-on, passed-stuck}
+use Rattle.text_fields.proofs.Exits.{follows-stuck}
 use Rattle.text_grammar.specs.Syntaxes as syntax
 use Rattle.text_phrases.proofs.phrases.step.Needs as need
 
