@@ -1,4 +1,6 @@
 //! Addition of slices, over any function store.
+#![tactic(auto)]
+
 ghost use Rattle.std.specs.Prelude.{[], ◌∷◌};
 ghost use Rattle.adder.specs.Slices.{AllHeld, SliceAdded, SliceLaws};
 

@@ -1,4 +1,6 @@
 //! The calls of a simulator of four registers, its answers and its faults.
+#![tactic(auto)]
+
 use exact::{Amplitude, Qubit, Weight};
 use gates::Gate;
 

@@ -1,4 +1,6 @@
 //! The form check of circuit text, and the lines of a text that has passed it.
+#![tactic(auto)]
+
 mod content;
 mod form;
 mod line;

@@ -1,5 +1,7 @@
 //! Columns of slices over any function store: the handles of four columns, and what is made of one or two columns slice by
 //! slice.
+#![tactic(auto)]
+
 ghost use Rattle.std.specs.Prelude.{◌≡◌, ◌-◌, ◌<◌, ◌≤◌, set, slice_index, slice_set};
 ghost use Rattle.adder.specs.Slices.{SliceAdded};
 ghost use Rattle.columns.specs.Columns.{handles_of, ColumnFixed, ColumnChosen, ColumnFlipped, ColumnsAdded, TopsRepeated};

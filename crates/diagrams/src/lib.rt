@@ -1,6 +1,8 @@
 //! Reduced ordered decision diagrams: what they stand for, and the laws of their handles, parts and growth.
 //!
 //! There is nothing to run here: each law is proved as the contract of a function that does nothing.
+#![tactic(auto)]
+
 ghost use Rattle.diagrams.specs.Laws.{DiagramLaws, MeaningLaws, FormingLaws};
 
 /// Two held handles with the same function are equal, and what a handle reaches are the parts of its function.

@@ -1,5 +1,6 @@
 -- Comparing two amplitudes by dividing the one of higher power by √2 until the powers are equal.
-use Rattle.std.proofs.Common.{◌≡◌, ℕ, suc, ◌+◌, ◌-◌, ◌<◌, ◌≤◌, Bool, true, false, cond, ℤ, Some, None, Decides, sym, refl, ap, ◌∙◌, true≢false, arith}
+use Rattle.std.proofs.Common.{◌≡◌, ℕ, suc, ◌+◌, ◌-◌, ◌<◌, ◌≤◌, Bool, true, false, cond, ◌&&◌, ℤ, Some, None, Decides, int_eq, sym, refl, ap, ◌∙◌, true≢false, arith}
+use Rattle.std.proofs.lemmas.Bool.Decides.{Decides-int_eq, Decides-and}
 use mathlib.Core.Bool.{false≢true}
 use Rattle.exact.specs.declared.Amplitude.{Amplitude}
 use Rattle.exact.specs.declared.Quadruple.{Quadruple}
@@ -67,17 +68,15 @@ module _ (low high : Amplitude) (h : low.power.0 ≤ high.power.0) where
   same_only_if now i s = powers_injective (high.power.0 - low.power.0) now low.quadruple (i ∙ sym (raised_to s))
 
 -- ---- `==` on quadruples, from what it says of each part
-abbrev pub Each : Bool → Quadruple → Quadruple → Type 0
-Each r p q = cond {A = Type 0} r
-    (Decides true (p.a ≡ q.a) × (Decides true (p.b ≡ q.b) × (Decides true (p.c ≡ q.c) × Decides true (p.d ≡ q.d))))
-    ((Decides false (p.a ≡ q.a) → ⊥) → (Decides false (p.b ≡ q.b) → ⊥) → (Decides false (p.c ≡ q.c) → ⊥) → (Decides false (p.d ≡ q.d) → ⊥) → ⊥)
+abbrev pub same_parts : Quadruple → Quadruple → Bool
+same_parts p q = int_eq p.a q.a && (int_eq p.b q.b && (int_eq p.c q.c && int_eq p.d q.d))
 
-differs : {x y : ℤ} → x ≡ y → Decides false (x ≡ y) → ⊥
-differs e d = false≢true (d.1 e)
-
-pub equals : (r : Bool) (p q : Quadruple) → Each r p q → Decides r (p ≡ q)
-equals true p q h = (λ _. quadruple_path (h.0.0 refl) (h.1.0.0 refl) (h.1.1.0.0 refl) (h.1.1.1.0 refl), λ _. refl)
-equals false p q h = (
-  λ e. absurd (false≢true e),
-  λ e. absurd (h (differs (ap (λ (x : Quadruple). x.a) e)) (differs (ap (λ (x : Quadruple). x.b) e)) (differs (ap (λ (x : Quadruple). x.c) e)) (differs (ap (λ (x : Quadruple). x.d) e))),
-)
+pub equals : (r : Bool) (p q : Quadruple) → r ≡ same_parts p q → Decides r (p ≡ q)
+equals r p q h =
+    let d = Decides-and (int_eq p.a q.a) (int_eq p.b q.b && (int_eq p.c q.c && int_eq p.d q.d)) (Decides-int_eq p.a q.a)
+        (Decides-and (int_eq p.b q.b) (int_eq p.c q.c && int_eq p.d q.d) (Decides-int_eq p.b q.b)
+            (Decides-and (int_eq p.c q.c) (int_eq p.d q.d) (Decides-int_eq p.c q.c) (Decides-int_eq p.d q.d))) in
+    (
+      λ e. let t = d.0 (sym h ∙ e) in quadruple_path (t.0) (t.1.0) (t.1.1.0) (t.1.1.1),
+      λ e. h ∙ d.1 (ap (λ (x : Quadruple). x.a) e, (ap (λ (x : Quadruple). x.b) e, (ap (λ (x : Quadruple). x.c) e, ap (λ (x : Quadruple). x.d) e))),
+    )

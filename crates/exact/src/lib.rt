@@ -1,6 +1,8 @@
 //! Exact numbers: quadruples, amplitudes, weights and shares, with the laws they obey.
 //!
 //! ω is exp(iπ/4), so ω⁴ = −1, the imaginary unit is ω², and √2 is ω − ω³.
+#![tactic(auto)]
+
 pub mod amplitudes;
 pub mod laws;
 pub mod weights;

@@ -1,4 +1,6 @@
 //! Function stores: Boolean functions of 1 to 16 qubits, each held under a handle.
+#![tactic(auto)]
+
 ghost use Rattle.std.specs.Prelude.{◌≡◌};
 ghost use Rattle.functions.specs.Meanings.{Meaning, Laws, qubits_of};
 ghost use Rattle.functions.specs.Answers.{Made, Kept, literal_asked, fixed_asked, combine_asked, value_answer, ones_answer};

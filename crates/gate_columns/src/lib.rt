@@ -1,4 +1,6 @@
 //! The new columns of a gate, made over any function store as the gate's recipe says.
+#![tactic(auto)]
+
 ghost use Rattle.std.specs.Prelude.{◌≡◌, ◌<◌, ◌≤◌};
 ghost use Rattle.recipes.specs.Recipes.{target};
 ghost use Rattle.columns.specs.Columns.{Sliced};

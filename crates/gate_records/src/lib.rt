@@ -1,4 +1,6 @@
 //! Records of registers opened at an index and led through gates, over any function store.
+#![tactic(auto)]
+
 ghost use Rattle.std.specs.Prelude.{◌≡◌, ◌≤◌};
 ghost use Rattle.matrices.specs.Gates.{power_of};
 ghost use Rattle.gate_records.specs.Moves.{Narrowed, ProductMade, RegisterOpened, GateApplied, SameRecordLaws};

@@ -1,4 +1,6 @@
 //! The gates by name.
+#![tactic(auto)]
+
 ghost use Rattle.std.specs.Prelude.{◌≡◌};
 ghost use Rattle.gates.specs.Arity.{qubits_of};
 

@@ -1,4 +1,6 @@
 //! The gates' matrices, registers led through gates, and the laws that tie them together.
+#![tactic(auto)]
+
 ghost use Rattle.matrices.specs.Laws.{GateLaws, ProductLaws, WeightLaws};
 ghost use Rattle.matrices.specs.Examples.{Examples};
 

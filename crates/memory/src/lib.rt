@@ -1,4 +1,6 @@
 //! A memory of combinations, over any function store.
+#![tactic(auto)]
+
 ghost use Rattle.std.specs.Prelude.{◌≡◌, []};
 ghost use Rattle.functions.specs.Answers.{Made, Kept, literal_asked, fixed_asked, combine_asked};
 ghost use Rattle.memory.specs.Remembering.{OrderedOver, Remembers, CombinedOver, KeptOver};

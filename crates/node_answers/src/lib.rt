@@ -1,4 +1,6 @@
 //! Answers and counts that are remembered over a diagram.
+#![tactic(auto)]
+
 mod answered;
 mod counting;
 mod counts;

@@ -1,4 +1,6 @@
 //! Builds known functions of 16 qubits in a node store, and prints how many nodes and ones each has and how much room it needs.
+#![tactic(auto)]
+
 ghost use Rattle.std.specs.Prelude.{◌≤◌, IfOk};
 ghost use Rattle.node_store.specs.Orders.{Ordered};
 

@@ -1,4 +1,6 @@
 //! A function store over a reduced ordered decision diagram.
+#![tactic(auto)]
+
 ghost use Rattle.node_store.specs.Orders.{node_meaning, Ordered, diagram};
 ghost use Rattle.diagrams.proofs.Meanings.{diagram_lawful};
 

@@ -1,4 +1,5 @@
 //! The nodes of a reduced ordered decision diagram, in words that are handed over.
+#![tactic(auto)]
 
 mod chains;
 mod joining;

@@ -1,4 +1,6 @@
 //! Runs the arithmetic of `exact` on the cases that standard input has, one to a line, and prints an answer for each.
+#![tactic(auto)]
+
 use anyhow::anyhow;
 use exact::{Amplitude, Quadruple, RootTwoPower, TwoPower, Weight};
 use std::io;

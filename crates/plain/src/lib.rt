@@ -1,5 +1,7 @@
 //! The plain machine: what a run of calls means, and when a call is refused. It is defined in specs/; its laws are proved as
 //! the contracts of functions that do nothing.
+#![tactic(auto)]
+
 ghost use Rattle.plain.specs.Laws.{RefusalLaws, CallLaws, RunLaws};
 
 /// A call is refused exactly with the first fault, in the order of numbers, that applies to it.

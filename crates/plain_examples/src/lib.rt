@@ -1,4 +1,6 @@
 //! Worked examples of the plain machine.
+#![tactic(auto)]
+
 ghost use Rattle.plain_examples.specs.Examples.{Examples};
 
 /// The worked examples.

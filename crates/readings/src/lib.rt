@@ -1,6 +1,8 @@
 //! Amplitudes and weights read from slices, over any function store.
 //!
 //! A column is handed over as the handles of its slices, slice 0 first: at least 1 and at most 22 of them.
+#![tactic(auto)]
+
 mod amplitudes;
 mod counting;
 mod sums;

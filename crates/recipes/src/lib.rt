@@ -1,4 +1,6 @@
 //! The recipe of each gate: how its new columns of slices are made of the old ones, as data.
+#![tactic(auto)]
+
 ghost use Rattle.std.specs.Prelude.{◌≡◌, true, false};
 ghost use Rattle.gates.specs.declared.Gate.TheVariants.{S, T, Rx};
 ghost use Rattle.recipes.specs.declared.terms.Operand.TheVariants.{Zero, Old, Fixed, Flipped};

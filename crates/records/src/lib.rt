@@ -1,4 +1,6 @@
 //! Records of registers: columns trimmed to the least width, in fixed places.
+#![tactic(auto)]
+
 ghost use Rattle.std.specs.Prelude.{◌≡◌, ◌-◌, ◌<◌, ◌≤◌, take, drop, replicate};
 ghost use Rattle.records.specs.Records.{same_numbers, same_record, all_same_handles, LeastWidth, CutTo, ColumnsTrimmed, Widened};
 

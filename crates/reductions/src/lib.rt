@@ -1,4 +1,6 @@
 //! Division of columns by √2, and their normal form, over any function store.
+#![tactic(auto)]
+
 ghost use Rattle.std.specs.Prelude.{◌≡◌, ◌<◌, ◌&&◌, take, drop, ◌==◌};
 ghost use Rattle.columns.specs.Columns.{Sliced};
 ghost use Rattle.reductions.specs.Reductions.{AskedDivisible, ColumnsDivided, ColumnsReduced, SlicedToo};

@@ -1,4 +1,6 @@
 //! The program: checks the form of a circuit text from standard input or a file.
+#![tactic(auto)]
+
 mod explain;
 mod input;
 

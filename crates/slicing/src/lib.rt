@@ -2,6 +2,8 @@
 //!
 //! A column is a list of functions, the slice of the lowest bit first. At an index its slices' values are the bits of an
 //! integer in two's complement.
+#![tactic(auto)]
+
 ghost use Rattle.std.specs.Prelude.{◌≡◌};
 ghost use Rattle.slicing.specs.Components.{component};
 

@@ -1,6 +1,8 @@
 //! Runs the calls that standard input has, one to a line, on a memory over a table store, and prints an answer for each.
 //!
 //! Handles are kept in numbered cells. Cells 0 and 1 have those of the constants at first.
+#![tactic(auto)]
+
 ghost use Rattle.std.specs.Prelude.{IfOk};
 ghost use Rattle.memory.specs.Remembering.{OrderedOver};
 ghost use Rattle.table_store.specs.Stores.{meaning_of, InOrder};

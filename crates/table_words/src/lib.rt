@@ -1,4 +1,6 @@
 //! Truth tables of at most 8 qubits packed into words: 64 values to a word.
+#![tactic(auto)]
+
 mod combining;
 mod packing;
 mod patterns;

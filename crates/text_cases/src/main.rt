@@ -1,4 +1,6 @@
 //! Runs the form check on the texts that `cases.txt` names, and prints each answer with its value.
+#![tactic(auto)]
+
 use circuit_text::{Form, check_form};
 use std::fs;
 use text_reader::Place;

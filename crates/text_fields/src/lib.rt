@@ -1,4 +1,6 @@
 //! The fields of a line of circuit text: each function reads one, or names the first token that does not fit.
+#![tactic(auto)]
+
 ghost use Rattle.std.specs.Prelude.{◌≤◌};
 ghost use Rattle.text_grammar.specs.Syntaxes as syntax;
 ghost use Rattle.text_fields.specs.Reading.{Follows, Is, IsNothing, Counts, IsIndex, IsNumbers};

@@ -1,4 +1,6 @@
 //! Prints what each line of the circuit text on standard input says, with the places of its words.
+#![tactic(auto)]
+
 use anyhow::anyhow;
 use circuit_text::{CircuitText, Content, Line};
 use std::io;

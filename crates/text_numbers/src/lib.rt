@@ -1,4 +1,6 @@
 //! Whole numbers and basis indices, as the words of circuit text write them.
+#![tactic(auto)]
+
 ghost use Rattle.std.specs.Prelude.{◌≡◌, ◌≤◌, length};
 ghost use Rattle.text_numbers.specs.Numbers.{number_of, well_formed, digits_value, index_of, ReadsNumber, ReadsIndex};
 

@@ -1,4 +1,6 @@
 //! The phrases of circuit text: what is read of each kind of line.
+#![tactic(auto)]
+
 mod phrases;
 mod values;
 

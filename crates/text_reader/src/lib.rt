@@ -1,4 +1,6 @@
 //! A reader of text that lends out words with their places.
+#![tactic(auto)]
+
 mod fault;
 mod place;
 mod reader;

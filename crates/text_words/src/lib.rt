@@ -1,4 +1,6 @@
 //! The words that name the sections, steps and questions of circuit text, told from their bytes.
+#![tactic(auto)]
+
 mod spelling;
 
 pub use spelling::{CountRange, QuestionWord, Section, StepWord};

@@ -18,8 +18,8 @@ returns-then-word-qubits c =
 pub loop-b-init : goal.loop-b-init
 loop-b-init c = bits_none c.args.word.now
 
-pub returns-in-default : goal.returns-in-default
-returns-in-default c =
+pub returns-in_default : goal.returns-in_default
+returns-in_default c =
     let h : (leb 48 (get_or c.args.word.now c.loop-b.b-index 0) && leb (get_or c.args.word.now c.loop-b.b-index 0) 49) ≡ false = grind (arith, nat_tests) in
     both _ _ _ (bits_stop _ _ _ _ c.loop-b.invariant c.loop-b-test.true h)
 

@@ -12,11 +12,11 @@ returns-then-b-lt48 c =
     let d : digit (get_or c.args.word.now c.loop-b.b-index 0) ≡ false = grind (arith, nat_tests) in
     sym (sym c.loop-b.invariant.1 ∙ digits_stop _ _ _ c.loop-b-test.true d)
 
-pub overflow-mul-value : goal.overflow-mul-value
-overflow-mul-value c = let h = value_room _ _ (omega arith) c.loop-b.invariant.0 in omega arith
+pub overflow_mul-value : goal.overflow_mul-value
+overflow_mul-value c = let h = value_room _ _ (omega arith) c.loop-b.invariant.0 in omega arith
 
-pub overflow-add-value : goal.overflow-add-value
-overflow-add-value c = let h = value_room _ _ (omega arith) c.loop-b.invariant.0 in omega arith
+pub overflow_add-value : goal.overflow_add-value
+overflow_add-value c = let h = value_room _ _ (omega arith) c.loop-b.invariant.0 in omega arith
 
 pub loop-b-preserved : goal.loop-b-preserved
 loop-b-preserved c =

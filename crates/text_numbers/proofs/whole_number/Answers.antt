@@ -8,8 +8,8 @@ use Rattle.text_numbers.proofs.whole_number.Goals as goal
 both : (w : List ℕ) (r : Option ℕ) → r ≡ number_of w → record { equals : r ≡ number_of w; reads : ReadsNumber w r }
 both w r e = record { equals = e; reads = reads_number w r e }
 
-pub returns-then-well-formed : goal.returns-then-well-formed
-returns-then-well-formed c = both _ _ (c.digits.ensures ∙ sym (cond-true _ _ _ (sym c.well-formed-2.ensures ∙ c.if-well-formed.true)))
+pub returns-then-well_formed : goal.returns-then-well_formed
+returns-then-well_formed c = both _ _ (c.digits.ensures ∙ sym (cond-true _ _ _ (sym c.well_formed-2.ensures ∙ c.if-well_formed.true)))
 
-pub returns-else-well-formed : goal.returns-else-well-formed
-returns-else-well-formed c = both _ _ (sym (cond-false _ _ _ (sym c.well-formed-2.ensures ∙ c.if-well-formed.false)))
+pub returns-else-well_formed : goal.returns-else-well_formed
+returns-else-well_formed c = both _ _ (sym (cond-false _ _ _ (sym c.well_formed-2.ensures ∙ c.if-well_formed.false)))

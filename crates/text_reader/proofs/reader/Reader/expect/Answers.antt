@@ -15,8 +15,8 @@ moved_on c =
     let s = stands_byte _ _ _ (stands c.args.self.now) c.if-self.true in
     subst (Stands c.args.self.now.text.now (c.args.self.now.pos + 1)) (ap (λ b. moved b c.args.self.now.place) c.if-self-byte.true ∙ sym c.past-self.ensures) s
 
-pub invariant-of-self : goal.invariant-of-self
-invariant-of-self c = let s = moved_on c in (s.sized, (s.within, (s.lines, (s.columns, tt))))
+pub invariant_of-self : goal.invariant_of-self
+invariant_of-self c = let s = moved_on c in (s.sized, (s.within, (s.lines, (s.columns, tt))))
 
 pub returns-then-self-byte : goal.returns-then-self-byte
 unfolding text_of rest

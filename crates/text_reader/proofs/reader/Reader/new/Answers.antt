@@ -3,8 +3,8 @@ use Rattle.text_reader.specs.Reading.{text_of, rest, standing}
 use Rattle.text_reader.proofs.Spots.{stands_start}
 use Rattle.text_reader.proofs.reader.Reader.new.Goals as goal
 
-pub invariant-of-result : goal.invariant-of-result
-invariant-of-result c = let s = stands_start c.args.text.now (omega arith) in (s.sized, (s.within, (s.lines, (s.columns, tt))))
+pub invariant_of-result : goal.invariant_of-result
+invariant_of-result c = let s = stands_start c.args.text.now (omega arith) in (s.sized, (s.within, (s.lines, (s.columns, tt))))
 
 pub returns : goal.returns
 unfolding text_of rest standing

@@ -21,14 +21,14 @@ room c =
 after_word : (c : After-peek-bytes) → Stands c.args.self.now.text.now (c.args.self.now.pos + length c.peek-bytes.result.now) (record { line = c.args.self.now.place.line; column = c.args.self.now.place.column + length c.peek-bytes.result.now })
 after_word c = stands_word _ _ _ _ (stands c.args.self.now) (long c)
 
-pub overflow-add-self : goal.overflow-add-self
-overflow-add-self c = let s = stands c.args.self.now in let h = stands_room s in omega (arith, room (goal.at.overflow-add-self c).After-peek-bytes, h.1, s.sized)
+pub overflow_add-self : goal.overflow_add-self
+overflow_add-self c = let s = stands c.args.self.now in let h = stands_room s in omega (arith, room (goal.at.overflow_add-self c).After-peek-bytes, h.1, s.sized)
 
-pub overflow-add-self-2 : goal.overflow-add-self-2
-overflow-add-self-2 c = let s = stands c.args.self.now in omega (arith, room (goal.at.overflow-add-self-2 c).After-peek-bytes, s.sized)
+pub overflow_add-self-2 : goal.overflow_add-self-2
+overflow_add-self-2 c = let s = stands c.args.self.now in omega (arith, room (goal.at.overflow_add-self-2 c).After-peek-bytes, s.sized)
 
-pub invariant-of-self : goal.invariant-of-self
-invariant-of-self c = let s = after_word (goal.at.invariant-of-self c).After-peek-bytes in (s.sized, (s.within, (s.lines, (s.columns, tt))))
+pub invariant_of-self : goal.invariant_of-self
+invariant_of-self c = let s = after_word (goal.at.invariant_of-self c).After-peek-bytes in (s.sized, (s.within, (s.lines, (s.columns, tt))))
 
 pub returns : goal.returns
 unfolding text_of rest standing
