@@ -1,19 +1,18 @@
 -- One slice of an addition, from what its three calls answered.
-use Rattle.std.proofs.Common.{◌≡◌, ℕ, ◌+◌, ◌*◌, Bool, true, false, cond, not, ◌&&◌, ◌||◌, List, [], ◌∷◌, ◌++◌, length, Some, Ok, Err, Result, sym, refl, ap, ◌∙◌, ap₂}
-use Rattle.exact.specs.Indices.{Index, listing}
+use Rattle.std.proofs.Common.{◌≡◌, ℕ, ◌+◌, ◌*◌, Bool, true, false, cond, ◌&&◌, ◌||◌, [], ◌∷◌, Some, Ok, Err, Result, refl, ap, ◌∙◌, ap₂}
+use Rattle.exact.specs.Indices.{listing}
 use Rattle.exact.proofs.Listings.{listing_same, at_listing}
 use Rattle.functions.specs.declared.faults.StoreFault.{StoreFault}
 use Rattle.functions.specs.Tables.{Table, value_at, constant, combined, digit, differ, parity, majority}
 use Rattle.functions.specs.Meanings.{Meaning, qubits_of, under}
-use Rattle.functions.specs.Growth.{Grew, Stopped, Built}
+use Rattle.functions.specs.Growth.{Grew, Built}
 use Rattle.functions.specs.Answers.{Made, combine_asked}
 use Rattle.functions.proofs.Values.{constant_at}
 use Rattle.functions.proofs.Rules.{combined_150, combined_232}
 use Rattle.functions.proofs.Handles.{under_0}
 use Rattle.functions.proofs.Growth.{built_after, built_stopped}
 use Rattle.functions.proofs.Asked.{combination, made_keeps}
-use Rattle.adder.specs.declared.SliceSum.{SliceSum}
-use Rattle.adder.specs.Slices.{turned, slice_sum, next_carry, slice_plan, SumOf, SliceAdded, SliceLaws}
+use Rattle.adder.specs.Slices.{turned, slice_sum, next_carry, slice_plan, SliceAdded, SliceLaws}
 
 -- the odd sum with the constant 0
 pub turned_rule : (n : ℕ) (q e : Table) → combined n 150 q e (constant n false) ≡ turned n q e

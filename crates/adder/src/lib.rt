@@ -22,10 +22,10 @@ pub fn add_slice<S: FunctionStore>(
     e: u32,
     carry: u32,
 ) -> Result<SliceSum, StoreFault>
-    requires order { ordered store.old }
-    requires held { AllHeld (meaning store.old) (p ∷ (q ∷ (e ∷ (carry ∷ [])))) }
-    ensures order { ordered store.new }
-    ensures added { SliceAdded (meaning store.old) (meaning store.new) p q e carry result }
+    requires order { S.ordered store.old }
+    requires held { AllHeld (S.meaning store.old) (p ∷ (q ∷ (e ∷ (carry ∷ [])))) }
+    ensures order { S.ordered store.new }
+    ensures added { SliceAdded (S.meaning store.old) (S.meaning store.new) p q e carry result }
 {
     let turned = store.combine(150, q, e, 0)?;
     let sum = store.combine(150, p, turned, carry)?;

@@ -1,7 +1,6 @@
 -- Comparing two amplitudes by dividing the one of higher power by √2 until the powers are equal.
-use Rattle.std.proofs.Common.{◌≡◌, ℕ, suc, ◌+◌, ◌-◌, ◌<◌, ◌≤◌, Bool, true, false, cond, ◌&&◌, ℤ, Some, None, Decides, int_eq, sym, refl, ap, ◌∙◌, true≢false, arith}
+use Rattle.std.proofs.Common.{◌≡◌, ℕ, suc, ◌+◌, ◌-◌, ◌<◌, ◌≤◌, Bool, true, false, cond, ◌&&◌, Some, None, Decides, int_eq, sym, refl, ap, ◌∙◌, true≢false, arith}
 use Rattle.std.proofs.lemmas.Bool.Decides.{Decides-int_eq, Decides-and}
-use mathlib.Core.Bool.{false≢true}
 use Rattle.exact.specs.declared.Amplitude.{Amplitude}
 use Rattle.exact.specs.declared.Quadruple.{Quadruple}
 use Rattle.exact.specs.Quadruples.{times-√2, times_power_of_√2, odd_sum, over-√2, division}
@@ -74,9 +73,8 @@ same_parts p q = int_eq p.a q.a && (int_eq p.b q.b && (int_eq p.c q.c && int_eq 
 pub equals : (r : Bool) (p q : Quadruple) → r ≡ same_parts p q → Decides r (p ≡ q)
 equals r p q h =
     let d = Decides-and (int_eq p.a q.a) (int_eq p.b q.b && (int_eq p.c q.c && int_eq p.d q.d)) (Decides-int_eq p.a q.a)
-        (Decides-and (int_eq p.b q.b) (int_eq p.c q.c && int_eq p.d q.d) (Decides-int_eq p.b q.b)
-            (Decides-and (int_eq p.c q.c) (int_eq p.d q.d) (Decides-int_eq p.c q.c) (Decides-int_eq p.d q.d))) in
-    (
+    (Decides-and (int_eq p.b q.b) (int_eq p.c q.c && int_eq p.d q.d) (Decides-int_eq p.b q.b)
+    (Decides-and (int_eq p.c q.c) (int_eq p.d q.d) (Decides-int_eq p.c q.c) (Decides-int_eq p.d q.d))) in (
       λ e. let t = d.0 (sym h ∙ e) in quadruple_path (t.0) (t.1.0) (t.1.1.0) (t.1.1.1),
       λ e. h ∙ d.1 (ap (λ (x : Quadruple). x.a) e, (ap (λ (x : Quadruple). x.b) e, (ap (λ (x : Quadruple). x.c) e, ap (λ (x : Quadruple). x.d) e))),
     )

@@ -1,5 +1,5 @@
 -- Quadruples of polynomial expressions: the formulas of quadruples, written over `Expr`, for the normaliser.
-use Rattle.std.proofs.Common.{◌≡◌, ℕ, ◌+◌, ◌*◌, List, [], ◌∷◌, ℤ, pos, negsuc, ◌+ℤ◌, ◌*ℤ◌, sym, refl}
+use Rattle.std.proofs.Common.{◌≡◌, ℕ, ◌+◌, List, [], ◌∷◌, ℤ, pos, negsuc, ◌+ℤ◌, ◌*ℤ◌, sym, refl}
 use Rattle.exact.specs.declared.Quadruple.{Quadruple}
 use Rattle.exact.specs.Quadruples.{quadruple, zero_quadruple, one_quadruple, add, multiply, times_ω, times-√2}
 use Rattle.exact.specs.Squares.{squared, square}

@@ -1,5 +1,5 @@
 -- Halves of sums of signed 32-bit numbers, computed in 64 bits.
-use Rattle.std.proofs.Common.{◌≡◌, ℕ, suc, ◌+◌, ◌-◌, ◌/◌, ◌%◌, ◌^◌, ◌<◌, Bool, true, false, cond, ℤ, pos, negsuc, ◌+ℤ◌, ◌-ℤ◌, neg_ℤ, Some, None, sym, refl, ap, ◌∙◌, subst, ap₂, arith, w32, w64, SFits, to_z, of_z}
+use Rattle.std.proofs.Common.{◌≡◌, ℕ, suc, ◌-◌, ◌/◌, ◌%◌, ◌^◌, ◌<◌, Bool, true, false, cond, ℤ, pos, negsuc, ◌+ℤ◌, ◌-ℤ◌, neg_ℤ, Some, None, sym, refl, ap, ◌∙◌, subst, ap₂, arith, w32, w64, SFits, to_z, of_z}
 use lib.IntN.{+ℤ_comm}
 use lib.Signed.{mag, quot_z, rem_z}
 use borrow.Author.Differences.{ints}

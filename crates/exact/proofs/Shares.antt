@@ -1,5 +1,5 @@
 -- The nearest whole number, and the share of a weight.
-use Rattle.std.proofs.Common.{◌≡◌, ℕ, ◌+◌, ◌-◌, ◌*◌, ◌/◌, ◌%◌, ◌^◌, ◌<◌, ◌≤◌, ℤ, pos, negsuc, nat_abs, sym, ap, ◌∙◌, mod-lt, add-mul, div-add-mod', div-mul-le_self, mul_left_comm, arith, pow_pos, pow_mono, w64, SFits, of_z}
+use Rattle.std.proofs.Common.{◌≡◌, ℕ, ◌+◌, ◌*◌, ◌/◌, ◌%◌, ◌^◌, ◌<◌, ◌≤◌, ℤ, pos, negsuc, nat_abs, sym, ap, ◌∙◌, mod-lt, add-mul, div-add-mod', div-mul-le_self, mul_left_comm, arith, pow_pos, pow_mono, w64, SFits, of_z}
 use native.Mathlib.Nat.{div-eq_of_lt, div-eq_of_lt-le}
 use Rattle.std.proofs.lemmas.Nat.{one_shl, pow_below}
 use Rattle.exact.specs.Laws.{Nearest}

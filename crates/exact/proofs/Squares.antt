@@ -1,5 +1,5 @@
 -- Sums of squares over sets of indices.
-use Rattle.std.proofs.Common.{◌≡◌, ℕ, ◌+◌, Bool, true, false, cond, not, List, map, ◌+ℤ◌, sym, refl, ap, ◌∙◌, arith}
+use Rattle.std.proofs.Common.{◌≡◌, ℕ, ◌+◌, Bool, true, false, cond, not, List, map, sym, refl, ap, ◌∙◌, arith}
 use mathlib.Core.Bool.{beq}
 use lib.ListN.{get_or-map}
 use lib.IntN.{+ℤ_idl, +ℤ_assoc, +ℤ_comm}

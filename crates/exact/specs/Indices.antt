@@ -1,6 +1,6 @@
 -- Basis indices. An index of n qubits is its list of n bits, qubit 0 first, and qubit 0 is the highest bit.
 -- A list of 2^n elements stands in the order of its indices: first those whose qubit 0 is 0, then those whose qubit 0 is 1.
-use Rattle.std.specs.Prelude.{◌≡◌, ℕ, zero, suc, ◌+◌, ◌/◌, ◌%◌, ◌^◌, ◌<◌, Bool, true, false, cond, ◌&&◌, List, [], ◌∷◌, ◌++◌, length, set, ◌==◌, ◌≢◌, slice_index_or, slice_set}
+use Rattle.std.specs.Prelude.{◌≡◌, ℕ, zero, suc, ◌+◌, ◌/◌, ◌%◌, ◌^◌, ◌<◌, Bool, true, false, cond, ◌&&◌, List, [], ◌∷◌, ◌++◌, length, ◌==◌, ◌≢◌, slice_index_or, slice_set}
 use Rattle.std.specs.Bool.{beq}
 
 abbrev pub Index : Type 0

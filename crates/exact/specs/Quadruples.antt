@@ -1,5 +1,5 @@
 -- Quadruples (a, b, c, d), which stand for aω³ + bω² + cω + d, where ω⁴ = −1, ω² is the imaginary unit and √2 = ω − ω³.
-use Rattle.std.specs.Prelude.{ℕ, zero, suc, ◌+◌, ◌*◌, ◌/◌, ◌%◌, Bool, cond, ◌||◌, ℤ, pos, negsuc, ◌+ℤ◌, ◌-ℤ◌, ◌*ℤ◌, neg_ℤ, Some, None, Option, ◌==◌, unsigned_abs}
+use Rattle.std.specs.Prelude.{ℕ, zero, suc, ◌/◌, ◌%◌, Bool, cond, ◌||◌, ℤ, pos, negsuc, ◌+ℤ◌, ◌-ℤ◌, ◌*ℤ◌, neg_ℤ, Some, None, Option, ◌==◌, unsigned_abs}
 use Rattle.exact.specs.declared.Quadruple.{Quadruple}
 
 abbrev pub quadruple : ℤ → ℤ → ℤ → ℤ → Quadruple

@@ -1,13 +1,13 @@
 -- Calls that make a function, where it is known which.
-use Rattle.std.proofs.Common.{◌≡◌, ℕ, ◌<◌, Bool, true, false, cond, ltb, List, [], ◌∷◌, ◌++◌, Some, None, Ok, Err, Option, Result, sym, refl, ap, ◌∙◌, subst, arith}
+use Rattle.std.proofs.Common.{◌≡◌, ℕ, ◌<◌, Bool, ltb, [], ◌∷◌, Some, None, Ok, Err, Option, Result, sym, refl, ap, ◌∙◌, subst, arith}
 use Rattle.std.proofs.lemmas.Bool.{cond-true, lt-ltb}
 use Rattle.exact.specs.declared.Qubit.{Qubit}
 use Rattle.functions.specs.declared.faults.StoreFault.{StoreFault}
 use Rattle.functions.specs.declared.faults.StoreFault.TheVariants.{QubitOutOfRange}
 use Rattle.functions.specs.Tables.{Table, literal, fixed, combined}
 use Rattle.functions.specs.Meanings.{Setting, Meaning, Laws, qubits_of, under}
-use Rattle.functions.specs.Growth.{Grew, Exceeds, Stopped, Built}
-use Rattle.functions.specs.Answers.{checked, and_then, or_not_held, function_under, literal_asked, fixed_asked, combine_asked, Handed, Due, Refused, Made}
+use Rattle.functions.specs.Growth.{Grew, Built}
+use Rattle.functions.specs.Answers.{checked, and_then, or_not_held, function_under, literal_asked, fixed_asked, combine_asked, Due, Made}
 use Rattle.functions.proofs.Growth.{grew_none}
 use Rattle.functions.proofs.Handles.{grew_again}
 

@@ -1,12 +1,12 @@
 -- A store that holds only the constants.
-use Rattle.std.proofs.Common.{◌≡◌, ℕ, ◌^◌, ◌<◌, ◌≤◌, Bool, true, false, cond, eqb, ◌⊎◌, List, [], ◌∷◌, length, Some, None, Option, sym, refl, ap, ◌∙◌, subst, inl, inr, ⊎_elim, arith}
+use Rattle.std.proofs.Common.{◌≡◌, ℕ, ◌^◌, ◌<◌, ◌≤◌, Bool, true, false, cond, eqb, ◌⊎◌, [], ◌∷◌, length, Some, None, sym, refl, ap, ◌∙◌, subst, inl, inr, ⊎_elim, arith}
 use Rattle.std.proofs.lemmas.Bool.{false≢true, eqb-true, or_left, or_right, or_cases, cond-true, cond-false}
 use Rattle.exact.specs.Indices.{bits}
 use Rattle.exact.proofs.Indices.{same_self, same_equal}
 use Rattle.exact.proofs.Tables.{length_bits}
 use Rattle.functions.specs.Tables.{Table, value_at, constant}
 use Rattle.functions.specs.Sets.{same, among, is_constant, space, different, without_constants}
-use Rattle.functions.specs.Meanings.{Setting, SettingLaws, Meaning, Laws, entry, under, functions_of, held, Holds, constants_only, only_itself}
+use Rattle.functions.specs.Meanings.{Setting, SettingLaws, Laws, entry, under, functions_of, held, Holds, constants_only, only_itself}
 use Rattle.functions.proofs.Values.{length_constant, constant_at}
 
 -- the two constants are different

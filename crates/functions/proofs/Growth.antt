@@ -1,12 +1,12 @@
 -- Plans made one after another.
-use Rattle.std.proofs.Common.{◌≡◌, ℕ, ◌<◌, ◌≤◌, Bool, true, false, ◌||◌, List, [], ◌∷◌, ◌++◌, Ok, Err, Result, sym, refl, ap, ◌∙◌, subst, append_assoc, arith}
+use Rattle.std.proofs.Common.{◌≡◌, ◌<◌, ◌≤◌, Bool, true, false, ◌||◌, List, [], ◌∷◌, ◌++◌, Ok, Err, Result, sym, refl, ap, ◌∙◌, subst, append_assoc, arith}
 use mathlib.Core.Bool.{or_assoc}
 use Rattle.std.proofs.lemmas.Bool.{or_left}
 use Rattle.functions.specs.declared.faults.StoreFault.{StoreFault}
 use Rattle.functions.specs.declared.faults.StoreFault.TheVariants.{NoSpace}
 use Rattle.functions.specs.Tables.{Table}
 use Rattle.functions.specs.Sets.{among, space, parts_of_all}
-use Rattle.functions.specs.Meanings.{Setting, Meaning, Laws, qubits_of, under, held}
+use Rattle.functions.specs.Meanings.{Setting, Meaning, Laws, qubits_of, held}
 use Rattle.functions.specs.Growth.{Grew, Exceeds, Stopped, Built, with_parts}
 use Rattle.functions.proofs.Sets.{among_append, parts_append, space_mono}
 

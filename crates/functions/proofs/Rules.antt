@@ -1,5 +1,5 @@
 -- The rules of the combinations that have names.
-use Rattle.std.proofs.Common.{◌≡◌, ℕ, Bool, true, false, cond, not, ◌&&◌, ◌||◌, refl}
+use Rattle.std.proofs.Common.{◌≡◌, ℕ, Bool, true, false, cond, ◌&&◌, ◌||◌, refl}
 use Rattle.exact.proofs.Listings.{listing_same}
 use Rattle.functions.specs.Tables.{Table, value_at, ruled, combined, choice, differ, parity, majority, conjunction}
 

@@ -1,7 +1,7 @@
 -- Lists of functions as sets, and the space that they take.
-use Rattle.std.proofs.Common.{◌≡◌, ℕ, suc, ◌+◌, ◌<◌, ◌≤◌, Bool, true, false, cond, not, ◌&&◌, ◌||◌, ◌⊎◌, List, [], ◌∷◌, ◌++◌, length, sym, refl, ap, ◌∙◌, subst, inl, inr, ⊎_elim, append_assoc, arith}
+use Rattle.std.proofs.Common.{◌≡◌, ℕ, suc, ◌+◌, ◌≤◌, Bool, true, false, cond, not, ◌&&◌, ◌||◌, ◌⊎◌, List, [], ◌∷◌, ◌++◌, length, sym, refl, ap, ◌∙◌, subst, inl, inr, ⊎_elim, append_assoc, arith}
 use mathlib.Core.Bool.{or_assoc}
-use Rattle.std.proofs.lemmas.Bool.{false≢true, true≢false, cases_Bool, or_parts, or_left, or_right, cond-true, cond-false, both_ways}
+use Rattle.std.proofs.lemmas.Bool.{false≢true, cases_Bool, or_parts, or_left, or_right, cond-true, cond-false, both_ways}
 use Rattle.exact.proofs.Indices.{same_self, same_equal}
 use Rattle.functions.specs.Tables.{Table}
 use Rattle.functions.specs.Sets.{same, among, is_constant, without_constants, different, space, parts_of_all}

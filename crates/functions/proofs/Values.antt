@@ -1,6 +1,6 @@
 -- The values of functions at indices, and functions with the same values.
-use Rattle.std.proofs.Common.{◌≡◌, ℕ, ◌^◌, ◌<◌, Bool, false, length, get_or, sym, refl, ap, ◌∙◌}
-use Rattle.exact.specs.Indices.{Index, bit, with_bit, bits, listing, at_index}
+use Rattle.std.proofs.Common.{◌≡◌, ℕ, ◌^◌, ◌<◌, Bool, false, length, get_or, sym, ap, ◌∙◌}
+use Rattle.exact.specs.Indices.{Index, bit, with_bit, bits, at_index}
 use Rattle.exact.proofs.Listings.{length_listing, listing_same, at_listing, listing_own}
 use Rattle.exact.proofs.Tables.{number_of_bits}
 use Rattle.functions.specs.Tables.{Table, value_at, constant, literal, fixed, ruled, combined}

@@ -1,6 +1,6 @@
 -- Making functions: what a store holds afterwards, and when there is no space for them. A list of functions to be made,
 -- in their order, is called a plan.
-use Rattle.std.specs.Prelude.{◌≡◌, ℕ, ◌<◌, ◌||◌, List, [], ◌∷◌, ◌++◌, map, Some, Ok, Err, Option, Result}
+use Rattle.std.specs.Prelude.{◌≡◌, ℕ, ◌<◌, ◌||◌, List, [], ◌∷◌, ◌++◌, map, Some, Ok, Err, Result}
 use Rattle.functions.specs.declared.faults.StoreFault.{StoreFault}
 use Rattle.functions.specs.declared.faults.StoreFault.TheVariants.{NoSpace}
 use Rattle.functions.specs.Tables.{Table}

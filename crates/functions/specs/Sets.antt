@@ -1,5 +1,5 @@
 -- Sets of functions, as lists: what is among them, how many there are, and their parts.
-use Rattle.std.specs.Prelude.{◌≡◌, ℕ, ◌+◌, Bool, true, false, cond, not, ◌||◌, List, [], ◌∷◌, ◌++◌}
+use Rattle.std.specs.Prelude.{ℕ, ◌+◌, Bool, true, false, cond, ◌||◌, List, [], ◌∷◌, ◌++◌}
 use Rattle.exact.specs.Indices.{same_index}
 use Rattle.functions.specs.Tables.{Table, constant}
 

@@ -1,5 +1,5 @@
 -- Boolean functions of n qubits as truth tables: the values at all indices, in the order of the indices.
-use Rattle.std.specs.Prelude.{ℕ, ◌+◌, ◌*◌, ◌/◌, ◌%◌, ◌^◌, Bool, true, false, cond, not, ◌&&◌, ◌||◌, List, ◌==◌}
+use Rattle.std.specs.Prelude.{ℕ, ◌+◌, ◌*◌, ◌/◌, ◌%◌, ◌^◌, Bool, false, cond, not, ◌&&◌, ◌||◌, List, ◌==◌}
 use Rattle.exact.specs.Indices.{Index, listing, total, at_index, bit, with_bit}
 
 abbrev pub Table : Type 0

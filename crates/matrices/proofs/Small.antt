@@ -1,5 +1,5 @@
 -- A gate on the 2^m quadruples of its own qubits, as quadruples and as polynomial expressions: variable 4i + j is part j of quadruple i.
-use Rattle.std.proofs.Common.{◌≡◌, ℕ, zero, suc, ◌+◌, ◌*◌, ℤ, pos, ◌+ℤ◌}
+use Rattle.std.proofs.Common.{◌≡◌, ℕ, zero, suc, ◌*◌, ℤ, pos, ◌+ℤ◌}
 use Rattle.exact.specs.declared.Quadruple.{Quadruple}
 use Rattle.exact.specs.Indices.{Index, number, total}
 use Rattle.exact.specs.Quadruples.{zero_quadruple, add}

@@ -1,4 +1,3 @@
-use Rattle.std.proofs.Common.{rules}
 use Rattle.std.proofs.lemmas.Result.{err_from_is_err_and}
 use Rattle.adder.proofs.Slices.{stopped_first, stopped_second, stopped_third, slice_added}
 use Rattle.adder.proofs.add_slice.Goals as goal
