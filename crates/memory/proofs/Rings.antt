@@ -1,5 +1,5 @@
 -- Entries of a ring, from a slot back.
-use Rattle.std.proofs.Common.{◌≡◌, ℕ, zero, suc, ◌+◌, ◌-◌, ◌%◌, ◌<◌, ◌≤◌, Bool, true, false, cond, List, [], ◌∷◌, length, get_or, take, set, Some, None, Option, sym, refl, ap, ◌∙◌, subst, ap₂, arith, get_or-set_other, get_or-set_same}
+use Rattle.std.proofs.Common.{◌≡◌, ℕ, zero, suc, ◌+◌, ◌-◌, ◌%◌, ◌<◌, ◌≤◌, cond, List, ◌∷◌, length, get_or, take, set, Some, None, sym, refl, ap, ◌∙◌, ap₂, arith, get_or-set_other, get_or-set_same}
 use Rattle.memory.specs.declared.entry.Remembered.{Remembered}
 use Rattle.memory.specs.Entries.{is_for}
 use Rattle.memory.specs.Recalling.{no_combination, back_from, recalled}

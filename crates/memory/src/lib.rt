@@ -25,9 +25,9 @@ pub struct Memory<S> {
 impl<S: FunctionStore> Memory<S> {
     /// A memory that remembers nothing yet.
     pub fn new(store: S) -> Memory<S>
-        requires { ordered store }
+        requires { S.ordered store }
         ensures same { result.store ≡ store }
-        ensures order { OrderedOver meaning ordered result }
+        ensures order { OrderedOver S.meaning S.ordered result }
         ensures empty { Remembers result [] }
     {
         let recent = Recent::new();
@@ -36,9 +36,9 @@ impl<S: FunctionStore> Memory<S> {
 
     /// Passes the call on.
     pub fn literal(&mut self, q: Qubit) -> Result<u32, StoreFault>
-        requires { OrderedOver meaning ordered self.old }
-        ensures order { OrderedOver meaning ordered self.new }
-        ensures made { Made (meaning self.old.store) (meaning self.new.store) (literal_asked (meaning self.old.store) q) result }
+        requires { OrderedOver S.meaning S.ordered self.old }
+        ensures order { OrderedOver S.meaning S.ordered self.new }
+        ensures made { Made (S.meaning self.old.store) (S.meaning self.new.store) (literal_asked (S.meaning self.old.store) q) result }
         ensures memory { self.new.recent ≡ self.old.recent }
     {
         self.store.literal(q)
@@ -46,9 +46,9 @@ impl<S: FunctionStore> Memory<S> {
 
     /// Passes the call on.
     pub fn fixed(&mut self, f: u32, q: Qubit, bit: bool) -> Result<u32, StoreFault>
-        requires { OrderedOver meaning ordered self.old }
-        ensures order { OrderedOver meaning ordered self.new }
-        ensures made { Made (meaning self.old.store) (meaning self.new.store) (fixed_asked (meaning self.old.store) f q bit) result }
+        requires { OrderedOver S.meaning S.ordered self.old }
+        ensures order { OrderedOver S.meaning S.ordered self.new }
+        ensures made { Made (S.meaning self.old.store) (S.meaning self.new.store) (fixed_asked (S.meaning self.old.store) f q bit) result }
         ensures memory { self.new.recent ≡ self.old.recent }
     {
         self.store.fixed(f, q, bit)
@@ -56,9 +56,9 @@ impl<S: FunctionStore> Memory<S> {
 
     /// Answers a combination that is remembered, asks the store below for any other, and remembers it if it is accepted.
     pub fn combine(&mut self, rule: u8, f: u32, g: u32, h: u32) -> Result<u32, StoreFault>
-        requires { OrderedOver meaning ordered self.old }
-        ensures order { OrderedOver meaning ordered self.new }
-        ensures made { Made (meaning self.old.store) (meaning self.new.store) (combine_asked (meaning self.old.store) rule f g h) result }
+        requires { OrderedOver S.meaning S.ordered self.old }
+        ensures order { OrderedOver S.meaning S.ordered self.new }
+        ensures made { Made (S.meaning self.old.store) (S.meaning self.new.store) (combine_asked (S.meaning self.old.store) rule f g h) result }
         ensures memory { CombinedOver self.old self.new rule f g h result }
     {
         match self.recent.recall(rule, f, g, h) {
@@ -88,9 +88,9 @@ impl<S: FunctionStore> Memory<S> {
 
     /// Passes a keep on, and forgets everything if it is accepted: a handle let go may come to stand for another function.
     pub fn keep(&mut self, list: &[u32]) -> Result<(), StoreFault>
-        requires { OrderedOver meaning ordered self.old }
-        ensures order { OrderedOver meaning ordered self.new }
-        ensures kept { Kept (meaning self.old.store) (meaning self.new.store) list.now result }
+        requires { OrderedOver S.meaning S.ordered self.old }
+        ensures order { OrderedOver S.meaning S.ordered self.new }
+        ensures kept { Kept (S.meaning self.old.store) (S.meaning self.new.store) list.now result }
         ensures memory { KeptOver self.old self.new result }
     {
         self.store.keep(list)?;
@@ -137,9 +137,9 @@ impl<S: FunctionStore> FunctionStore for Memory<S> {
 
 /// A memory over a memory, which is a store as well.
 pub fn two_memories<S: FunctionStore>(store: S) -> Memory<Memory<S>>
-    requires { ordered store }
+    requires { S.ordered store }
     ensures same { result.store.store ≡ store }
-    ensures order { OrderedOver (λ s. meaning s.store) (OrderedOver meaning ordered) result }
+    ensures order { OrderedOver (λ s. S.meaning s.store) (OrderedOver S.meaning S.ordered) result }
     ensures empty { Remembers result [] × Remembers result.store [] }
 {
     Memory::new(Memory::new(store))

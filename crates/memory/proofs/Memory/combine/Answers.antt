@@ -1,4 +1,4 @@
-use Rattle.std.proofs.Common.{◌≡◌, sym, refl, ap, ◌∙◌, subst, rules}
+use Rattle.std.proofs.Common.{sym, refl, ◌∙◌, subst}
 use Rattle.std.specs.List.{AllByRecursion as All}
 use Rattle.std.proofs.lemmas.Result.{err_from_is_err_and}
 use Rattle.memory.specs.Remembering.{Right}
@@ -16,18 +16,18 @@ returns-in-Some g c =
       memory = combined_hit _ _ _ _ _ _ _ found refl c.remember.ensures;
     }
 
-pub returns-in-err-answer : goal.returns-in-err-answer
-returns-in-err-answer g c =
-    let p = err_from_is_err_and c.from-residual.result c.from-residual.ensures.1 in
+pub returns-in_err-answer-in-None : goal.returns-in_err-answer-in-None
+returns-in_err-answer-in-None g c =
+    let p = err_from_is_err_and c.from_residual.result c.from_residual.ensures.1 in
     record {
       order = record { below = c.combine.ensures.order; right = all_right_made _ _ _ _ _ c.combine.ensures.made c.requires.right };
-      made = rw (p.1, p.2) c.in-err-answer.ensures.made;
+      made = rw (p.1, p.2) c.in_err-answer-in-None.ensures.made;
       memory = rw (p.1, p.2) (combined_refused _ _ _ _ _ _ _ (sym c.recall.ensures ∙ c.in-None.is) refl);
     }
 
-pub returns-in-ok-answer : goal.returns-in-ok-answer
-returns-in-ok-answer g c =
-    let made = c.in-ok-answer.ensures.made in
+pub returns-in_ok-answer-in-None : goal.returns-in_ok-answer-in-None
+returns-in_ok-answer-in-None g c =
+    let made = c.in_ok-answer-in-None.ensures.made in
     record {
       order = record { below = c.combine.ensures.order; right = subst (All (Right (g.S.FunctionStore.meaning c.combine.new.self))) (sym c.remember-in-None.ensures) (all_right_new _ _ _ _ _ _ _ _ made c.requires.right) };
       made = made;
