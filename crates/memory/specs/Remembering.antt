@@ -1,6 +1,6 @@
 -- What a memory over a store remembers, and when it is in order.
 use Rattle.std.specs.Prelude.{◌≡◌, ℕ, List, [], ◌∷◌, ◌++◌, take, Some, Ok, Err, Result}
-use Rattle.std.specs.List.{AllByRecursion as All}
+use Rattle.std.specs.List.{AllByRecursion}
 use Rattle.functions.specs.declared.faults.StoreFault.{StoreFault}
 use Rattle.functions.specs.Tables.{Table, combined}
 use Rattle.functions.specs.Meanings.{Meaning, qubits_of, under}
@@ -21,7 +21,7 @@ pub record Right (m : Meaning) (e : Remembered) : Type 0 where
 -- A memory is in order if the store below is, and its answers are right.
 pub record OrderedOver {S : Type 0} (meaning : S → Meaning) (ordered : S → Type 0) (s : Memory S) : Type 0 where
   pub below : ordered s.store
-  pub right : All (Right (meaning s.store)) (newest_first s.recent)
+  pub right : AllByRecursion (Right (meaning s.store)) (newest_first s.recent)
 
 -- Of a history of combinations, the newest first, those remembered are the first 64.
 unfoldable pub Remembers : {S : Type 0} → Memory S → List Remembered → Type 0

@@ -1,6 +1,6 @@
 -- A function is given a handle.
-use Rattle.std.proofs.Common.{◌≡◌, ℕ, zero, suc, ◌+◌, ◌-◌, ◌<◌, ◌≤◌, Bool, true, false, cond, ◌||◌, ◌⊎◌, List, [], ◌∷◌, ◌++◌, map, length, set, Some, None, Ok, Err, vec_items, sym, refl, ap, ◌∙◌, subst, ap₂, inl, inr, ⊎_elim, arith}
-use mathlib.Core.Bool.{or_assoc, or_comm, or_false}
+use Rattle.std.proofs.Common.{◌≡◌, ℕ, zero, suc, ◌+◌, ◌<◌, ◌≤◌, Bool, true, false, cond, ◌||◌, ◌⊎◌, List, [], ◌∷◌, ◌++◌, map, length, set, Some, None, Ok, Err, vec_items, sym, refl, ap, ◌∙◌, subst, ap₂, inl, inr, ⊎_elim, arith}
+use mathlib.Core.Bool.{or_assoc, or_comm, or-false}
 use Rattle.std.specs.List.{slice_get}
 use Rattle.std.proofs.lemmas.List.{append-nil, length-set}
 use Rattle.std.proofs.lemmas.Bool.{cases_Bool, cases_eq, or_from, or_parts, both_ways, cond-false}
@@ -19,7 +19,7 @@ use Rattle.table_words.proofs.Words.{unpacked_once, equal_same, same_equal as wo
 use Rattle.table_store.specs.Handles.{Content, meaning_over}
 use Rattle.table_store.specs.declared.TableStore.{TableStore}
 use Rattle.table_store.specs.Places.{contents}
-use Rattle.table_store.specs.Stores.{PlacesInOrder, Laid_out, InOrder, Varies, SomeWith, Written, places_of, meaning_of}
+use Rattle.table_store.specs.Stores.{PlacesInOrder, LaidOut, InOrder, Varies, SomeWith, Written, places_of, meaning_of}
 use Rattle.table_store.specs.Holding.{none_is_some, words_of, under_at, under_constant, Stands, for_constant, for_place, stands, stood, held_words, held_at, place_below, not_constant, places_lawful}
 
 pub nth_set_same : {X : Type 0} (xs : List X) (i : ℕ) (x y : X) → slice_get xs i ≡ Some y → slice_get (set xs i x) i ≡ Some x
@@ -44,7 +44,7 @@ parts_alone n f e = append-nil (only_itself n f) ∙ cond-false (is_constant n f
 
 among_one : (g f : Table) → among g (f ∷ []) ≡ same g f
 unfolding among
-among_one g f = or_false (same g f)
+among_one g f = or-false (same g f)
 
 -- what is held after one more was put at a free place
 among_set : (n : ℕ) (g : Table) (t : List ℕ) (ps : List Content) (p : ℕ) → slice_get ps p ≡ Some None → among g (map (unpacked n) (words_of (set ps p (Some t)))) ≡ (among g (map (unpacked n) (words_of ps)) || same g (unpacked n t))
@@ -196,12 +196,12 @@ stored s r p t eq el o long clean varies fresh free w =
     let n = s.qubits in
     let m = s.limit in
     let none = λ (q : ℕ) (e : slice_get (places_of s) q ≡ Some (Some t)). fresh q (let a : q < length (places_of s) = place_below (places_of s) q (Some t) e in let b : length (places_of s) ≡ s.limit = o.places.many in omega arith) e in
-    let x : (Laid_out n m (vec_items r.words) × PlacesInOrder n m (contents n m (vec_items r.words))) × Made (meaning_of s) (meaning_over n m (contents n m (vec_items r.words))) (Ok (unpacked n t)) (Ok (p + 2)) =
-    subst (λ (qs : List Content). (Laid_out n m (vec_items r.words) × PlacesInOrder n m qs) × Made (meaning_of s) (meaning_over n m qs) (Ok (unpacked n t)) (Ok (p + 2))) (sym w.places) (
+    let x : (LaidOut n m (vec_items r.words) × PlacesInOrder n m (contents n m (vec_items r.words))) × Made (meaning_of s) (meaning_over n m (contents n m (vec_items r.words))) (Ok (unpacked n t)) (Ok (p + 2)) =
+    subst (λ (qs : List Content). (LaidOut n m (vec_items r.words) × PlacesInOrder n m qs) × Made (meaning_of s) (meaning_over n m qs) (Ok (unpacked n t)) (Ok (p + 2))) (sym w.places) (
       (w.marked, added_order n m ps o.laid_out.some_qubits o.laid_out.few_qubits o.laid_out.few_places o.places t long clean varies none p free.1),
       added_made n m ps o.laid_out.some_qubits o.laid_out.few_qubits o.laid_out.few_places o.places t long clean varies none p free.1,
     ) in
-    let y = moved (λ (a b : ℕ). (Laid_out a b (vec_items r.words) × PlacesInOrder a b (contents a b (vec_items r.words))) × Made (meaning_of s) (meaning_over a b (contents a b (vec_items r.words))) (Ok (unpacked n t)) (Ok (p + 2))) n r.qubits m r.limit eq el x in
+    let y = moved (λ (a b : ℕ). (LaidOut a b (vec_items r.words) × PlacesInOrder a b (contents a b (vec_items r.words))) × Made (meaning_of s) (meaning_over a b (contents a b (vec_items r.words))) (Ok (unpacked n t)) (Ok (p + 2))) n r.qubits m r.limit eq el x in
     (record { laid_out = y.0.0; places = y.0.1 }, y.1)
 
 pub stored_nowhere : (s : TableStore) (t : List ℕ) → InOrder s → length t ≡ 4 → Clean s.qubits t → Varies s.qubits t → SomeWith (places_of s) (Some t) s.limit None → SomeWith (places_of s) None s.limit None

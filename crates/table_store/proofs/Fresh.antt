@@ -9,7 +9,7 @@ use Rattle.functions.specs.Meanings.{Meaning, only_itself, constants_only}
 use Rattle.table_store.specs.declared.TableStore.{TableStore}
 use Rattle.table_store.specs.Handles.{Content, entries_from, meaning_over}
 use Rattle.table_store.specs.Places.{width, limit_of, contents}
-use Rattle.table_store.specs.Stores.{Laid_out, PlacesInOrder, store_check, setting_by, NewStore}
+use Rattle.table_store.specs.Stores.{LaidOut, PlacesInOrder, store_check, setting_by, NewStore}
 use Rattle.table_store.proofs.Laid.{used_place, length_contents}
 
 -- ---- the check
@@ -68,7 +68,7 @@ module _ (n limit : ℕ) (ws : List ℕ) (free : (p : ℕ) → p < limit → get
   nothing : (p : ℕ) (t : List ℕ) → slice_get (contents n limit ws) p ≡ Some (Some t) → ⊥
   nothing p t e = let u = used_place n limit ws p t e in u.1 (free p u.0)
 
-  pub new_order : 1 ≤ n → n ≤ 8 → limit ≤ 4096 → limit * (width n + 1) ≤ length ws → Laid_out n limit ws × PlacesInOrder n limit (contents n limit ws)
+  pub new_order : 1 ≤ n → n ≤ 8 → limit ≤ 4096 → limit * (width n + 1) ≤ length ws → LaidOut n limit ws × PlacesInOrder n limit (contents n limit ws)
   new_order a b c d = (
     record { some_qubits = a; few_qubits = b; few_places = c; suffice = d; marked = λ p l h. absurd (h (free p l)) },
     record {

@@ -1,5 +1,5 @@
 -- How functions lie among the words.
-use Rattle.std.proofs.Common.{◌≡◌, ℕ, zero, suc, ◌+◌, ◌-◌, ◌*◌, ◌^◌, ◌<◌, ◌≤◌, min, cond, eqb, ltb, ◌⊎◌, List, [], ◌∷◌, length, get_or, set, Some, None, sym, refl, ap, ◌∙◌, subst, ap₂, ⊎_elim, mul_comm, add-mul, mul-le-mul_left, one-mul, mul-suc, arith, pow_pos, pow_mono}
+use Rattle.std.proofs.Common.{◌≡◌, ℕ, zero, suc, ◌+◌, ◌-◌, ◌*◌, ◌^◌, ◌<◌, ◌≤◌, min, cond, eqb, ltb, List, [], ◌∷◌, length, get_or, set, Some, None, sym, refl, ap, ◌∙◌, subst, ap₂, ⊎_elim, mul_comm, add-mul, mul-le-mul_left, one-mul, mul-suc, arith, pow_pos, pow_mono}
 use lib.Bits.{bit_and, bit_or, or_add_and}
 use Rattle.std.specs.List.{slice_get}
 use Rattle.std.proofs.lemmas.Nat.{and_le_l}
@@ -11,7 +11,7 @@ use Rattle.table_words.specs.Words.{Clean}
 use Rattle.table_store.specs.Marks.{mixed, mark_of}
 use Rattle.table_store.specs.Handles.{Content}
 use Rattle.table_store.specs.Places.{width, word_at, words_at, content, contents}
-use Rattle.table_store.specs.Stores.{Laid_out, Written}
+use Rattle.table_store.specs.Stores.{LaidOut, Written}
 use Rattle.table_store.specs.Holding.{none_is_some}
 
 -- ---- widths and places
@@ -38,14 +38,14 @@ within_places d limit p j l m =
 all_words : (d limit : ℕ) → limit * (d + 1) ≡ d * limit + limit
 all_words d limit = mul_comm limit (d + 1) ∙ add-mul d 1 limit ∙ ap (λ (x : ℕ). d * limit + x) (one-mul limit)
 
-pub within_words : (n limit p j : ℕ) (ws : List ℕ) → Laid_out n limit ws → p < limit → j < width n → limit + width n * p + j < length ws
+pub within_words : (n limit p j : ℕ) (ws : List ℕ) → LaidOut n limit ws → p < limit → j < width n → limit + width n * p + j < length ws
 within_words n limit p j ws o l m =
     let a : width n * p + j < width n * limit = within_places (width n) limit p j l m in
     let b : limit * (width n + 1) ≡ width n * limit + limit = all_words (width n) limit in
     let c : limit * (width n + 1) ≤ length ws = o.suffice in
     omega arith
 
-pub limit_within : (n limit : ℕ) (ws : List ℕ) → Laid_out n limit ws → limit ≤ length ws
+pub limit_within : (n limit : ℕ) (ws : List ℕ) → LaidOut n limit ws → limit ≤ length ws
 limit_within n limit ws o =
     let b : limit * (width n + 1) ≡ width n * limit + limit = all_words (width n) limit in
     let c : limit * (width n + 1) ≤ length ws = o.suffice in
@@ -135,7 +135,7 @@ writing_all ws t first p mark vs j x = record {
   rest = λ i h k. x.rest i h k ∙ get_or-set_other ws p i mark 0 h;
 }
 
-module _ (n limit p mark : ℕ) (ws t vs : List ℕ) (o : Laid_out n limit ws) (within : p < limit) (long : length t ≡ 4) (clean : Clean n t) (made : mark ≡ mark_of t) (x : Writing ws t (limit + width n * p) p mark vs (width n)) where
+module _ (n limit p mark : ℕ) (ws t vs : List ℕ) (o : LaidOut n limit ws) (within : p < limit) (long : length t ≡ 4) (clean : Clean n t) (made : mark ≡ mark_of t) (x : Writing ws t (limit + width n * p) p mark vs (width n)) where
   -- the words written are those of the function: past the width they are 0
   new_word : (j : ℕ) → j < 4 → word_at n limit vs p j ≡ get_or t j 0
   unfolding word_at Clean

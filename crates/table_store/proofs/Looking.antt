@@ -1,5 +1,5 @@
 -- What is looked up: handles, words of places, functions at places.
-use Rattle.std.proofs.Common.{◌≡◌, ℕ, zero, suc, ◌+◌, ◌-◌, ◌*◌, ◌<◌, ◌≤◌, Bool, true, false, cond, eqb, ltb, ◌⊎◌, List, length, get_or, Some, None, Ok, Err, Option, Result, sym, refl, ap, ◌∙◌, subst, ⊎_elim, arith}
+use Rattle.std.proofs.Common.{◌≡◌, ℕ, zero, suc, ◌+◌, ◌-◌, ◌*◌, ◌<◌, ◌≤◌, Bool, true, false, cond, eqb, ltb, List, length, get_or, Some, None, Ok, Err, Option, Result, sym, refl, ap, ◌∙◌, subst, ⊎_elim, arith}
 use Rattle.std.specs.List.{slice_get}
 use Rattle.std.proofs.lemmas.Nat.{mul-le}
 use Rattle.std.proofs.lemmas.List.{get_or_read}
@@ -16,7 +16,7 @@ use Rattle.table_store.specs.declared.handles.Handle.TheVariants.{Constant, Plac
 use Rattle.table_store.specs.Marks.{mark_of}
 use Rattle.table_store.specs.Handles.{Content, meaning_over, in_use, handle_of}
 use Rattle.table_store.specs.Places.{width, word_at, words_at, contents}
-use Rattle.table_store.specs.Stores.{Laid_out, PlacesInOrder, FirstWith, SomeWith}
+use Rattle.table_store.specs.Stores.{LaidOut, PlacesInOrder, FirstWith, SomeWith}
 use Rattle.table_store.specs.Holding.{function_of, under_place, under_at, under_constant}
 use Rattle.table_store.proofs.Laid.{width_few, within_words, limit_within, place_free, place_used, used_place, nth_beyond, length_words_at, mark_some}
 
@@ -113,10 +113,10 @@ small_product n d limit p e few places l =
     let a : d * p ≤ 4 * 4096 = mul-le d p 4 4096 (omega arith) (omega arith) in
     omega arith
 
-pub place_within : (n d limit p j : ℕ) (ws : List ℕ) → d ≡ width n → Laid_out n limit ws → p < limit → j < d → limit + d * p + j < length ws
+pub place_within : (n d limit p j : ℕ) (ws : List ℕ) → d ≡ width n → LaidOut n limit ws → p < limit → j < d → limit + d * p + j < length ws
 place_within n d limit p j ws e o l m = subst (λ (x : ℕ). limit + x * p + j < length ws) (sym e) (within_words n limit p j ws o l (omega arith))
 
-pub word_read : (n d limit p j x : ℕ) (ws : List ℕ) → d ≡ width n → Laid_out n limit ws → p < limit → j < d → x ≡ get_or ws (limit + d * p + j) x → x ≡ word_at n limit ws p j
+pub word_read : (n d limit p j x : ℕ) (ws : List ℕ) → d ≡ width n → LaidOut n limit ws → p < limit → j < d → x ≡ get_or ws (limit + d * p + j) x → x ≡ word_at n limit ws p j
 unfolding word_at
 word_read n d limit p j x ws e o l m h =
     get_or_read ws (limit + d * p + j) x (place_within n d limit p j ws e o l m) h 0
@@ -128,7 +128,7 @@ unfolding word_at
 word_past n d limit p j ws e l = sym (cond-false (ltb j (width n)) _ _ (le-ltb j (width n) (omega arith)))
 
 -- ---- a function at a place
-module _ (n limit : ℕ) (ws t : List ℕ) (o : Laid_out n limit ws) (long : length t ≡ 4) where
+module _ (n limit : ℕ) (ws t : List ℕ) (o : LaidOut n limit ws) (long : length t ≡ 4) where
   pub same_place : (p m : ℕ) (r : List ℕ) → p < limit → m ≡ mark_of t → get_or ws p 0 ≡ m → r ≡ words_at n limit ws p → same_words r t ≡ true → slice_get (contents n limit ws) p ≡ Some (Some t)
   same_place p m r l e h q s =
       let a : 0 < mark_of t = mark_some t in
@@ -165,7 +165,7 @@ found_before ps x start limit None l a b = found_none ps x start limit a b
 none_more : (P : ℕ → Type 0) (from i : ℕ) → ((q : ℕ) → from ≤ q → q < i → P q → ⊥) → (P i → ⊥) → (q : ℕ) → from ≤ q → q < i + 1 → P q → ⊥
 none_more P from i h n q a b e = ⊎_elim (λ (z : q ≡ i). n (subst P z e)) (λ (z : q ≡ i → ⊥). h q a (omega arith) e) (cases_eq q i)
 
-module _ (n limit : ℕ) (ws : List ℕ) (from i x : ℕ) (o : Laid_out n limit ws) (l : i < limit) (read : x ≡ get_or ws i x) where
+module _ (n limit : ℕ) (ws : List ℕ) (from i x : ℕ) (o : LaidOut n limit ws) (l : i < limit) (read : x ≡ get_or ws i x) where
   mark_read : get_or ws i 0 ≡ x
   mark_read = let m : limit ≤ length ws = limit_within n limit ws o in sym (get_or_read ws i x (omega arith) read 0)
 

@@ -1,12 +1,12 @@
 -- What is kept.
-use Rattle.std.proofs.Common.{◌≡◌, ℕ, ◌+◌, ◌-◌, ◌*◌, ◌<◌, ◌≤◌, Bool, true, false, cond, ◌||◌, eqb, ltb, ◌⊎◌, List, [], ◌∷◌, ◌++◌, map, length, get_or, take, drop, set, Some, None, Ok, Err, vec_items, Result, sym, refl, ap, ◌∙◌, subst, ap₂, inl, inr, ⊎_elim, append_assoc, arith}
-use mathlib.Core.Bool.{or_assoc, or_false}
+use Rattle.std.proofs.Common.{◌≡◌, ℕ, ◌+◌, ◌*◌, ◌<◌, ◌≤◌, Bool, true, false, cond, ◌||◌, eqb, ltb, ◌⊎◌, List, [], ◌∷◌, ◌++◌, map, length, get_or, take, drop, set, Some, None, Ok, Err, vec_items, Result, sym, refl, ap, ◌∙◌, subst, ap₂, inl, inr, ⊎_elim, append_assoc, arith}
+use mathlib.Core.Bool.{or_assoc, or-false}
 use Rattle.std.specs.List.{slice_get}
 use Rattle.std.proofs.lemmas.List.{drop_more, drop_all, take_more, take_all, length-set, get_or-set_same, get_or-set_other}
 use Rattle.std.proofs.lemmas.Bool.{cases_Bool, cases_eq, eqb-true, eq-eqb, ne_eqb, or_left, or_right, or_cases, cond-true, cond-false, false≢true}
 use Rattle.functions.specs.declared.faults.StoreFault.{StoreFault}
 use Rattle.functions.specs.declared.faults.StoreFault.TheVariants.{NotHeld}
-use Rattle.functions.specs.Tables.{Table, constant}
+use Rattle.functions.specs.Tables.{Table}
 use Rattle.functions.specs.Sets.{among, parts_of_all}
 use Rattle.functions.specs.Meanings.{Meaning, under, held, Holds, Part, only_itself}
 use Rattle.functions.specs.Answers.{and_then, function_under, functions_under, Shrank}
@@ -19,7 +19,7 @@ use Rattle.table_store.specs.Handles.{Content, meaning_over}
 use Rattle.table_store.specs.Places.{words_at, word_at, width, contents}
 use Rattle.table_store.specs.Keeping.{inside, KeptMarks}
 use Rattle.table_store.specs.declared.TableStore.{TableStore}
-use Rattle.table_store.specs.Stores.{PlacesInOrder, Varies, Laid_out, InOrder, meaning_of}
+use Rattle.table_store.specs.Stores.{PlacesInOrder, Varies, LaidOut, InOrder, meaning_of}
 use Rattle.table_store.proofs.Adding.{moved}
 use Rattle.table_store.specs.Holding.{words_of, under_at, Stands, for_constant, for_place, stands, held_words, held_at, at_held, not_constant, places_lawful}
 use Rattle.table_store.proofs.Laid.{place_used, used_place, length_contents}
@@ -118,7 +118,7 @@ unfolding inside
 inside_more k i x list l g =
     ap (inside k) (take_more list i x l ∙ ap (λ (y : ℕ). take i list ++ (y ∷ [])) (sym g))
     ∙ inside_append k (take i list) (x ∷ [])
-    ∙ ap (λ (b : Bool). inside k (take i list) || b) (or_false (eqb k x))
+    ∙ ap (λ (b : Bool). inside k (take i list) || b) (or-false (eqb k x))
 
 pub record Listing (m : Meaning) (list : List ℕ) (flags : List Bool) (i : ℕ) : Type 0 where
   pub long : length flags ≡ 4096
@@ -164,7 +164,7 @@ module _ (m : Meaning) (list : List ℕ) (i k : ℕ) (l : i < length list) (g : 
     long = x.long;
     functions = x.functions ++ (f ∷ []);
     left = left_more x.functions f e x.left;
-    listed = λ p h. x.listed p h ∙ sym (inside_more (p + 2) i k list l g ∙ ap (λ (b : Bool). inside (p + 2) (take i list) || b) (ne_eqb (p + 2) k (omega arith)) ∙ or_false (inside (p + 2) (take i list)));
+    listed = λ p h. x.listed p h ∙ sym (inside_more (p + 2) i k list l g ∙ ap (λ (b : Bool). inside (p + 2) (take i list) || b) (ne_eqb (p + 2) k (omega arith)) ∙ or-false (inside (p + 2) (take i list)));
   }
 
   -- a place
@@ -180,7 +180,7 @@ module _ (m : Meaning) (list : List ℕ) (i k : ℕ) (l : i < length list) (g : 
         ∙ sym (inside_more (p + 2) i k list l g ∙ or_right (inside (p + 2) (take i list)) (eqb (p + 2) k) (eq-eqb (p + 2) k (omega arith))))
         (λ (z : p ≡ q → ⊥).
         get_or-set_other flags q p true false z ∙ x.listed p h
-        ∙ sym (inside_more (p + 2) i k list l g ∙ ap (λ (b : Bool). inside (p + 2) (take i list) || b) (ne_eqb (p + 2) k (λ e. z (omega arith))) ∙ or_false (inside (p + 2) (take i list))))
+        ∙ sym (inside_more (p + 2) i k list l g ∙ ap (λ (b : Bool). inside (p + 2) (take i list) || b) (ne_eqb (p + 2) k (λ e. z (omega arith))) ∙ or-false (inside (p + 2) (take i list))))
         (cases_eq p q);
   }
 
@@ -215,7 +215,7 @@ pub freeing_all : (limit : ℕ) (flags : List Bool) (ws vs : List ℕ) (i : ℕ)
 freeing_all limit flags ws vs i e x = record { long = x.long; marks = λ p l. x.past p (omega arith); others = λ p l. x.rest p (omega arith) }
 
 -- ---- words after a keep
-module _ (n limit : ℕ) (flags : List Bool) (ws vs list : List ℕ) (o : Laid_out n limit ws) (k : KeptMarks limit flags ws vs) (listed : (p : ℕ) → p < 4096 → get_or flags p false ≡ inside (p + 2) list) where
+module _ (n limit : ℕ) (flags : List Bool) (ws vs list : List ℕ) (o : LaidOut n limit ws) (k : KeptMarks limit flags ws vs) (listed : (p : ℕ) → p < 4096 → get_or flags p false ≡ inside (p + 2) list) where
   same_words : (p : ℕ) → words_at n limit vs p ≡ words_at n limit ws p
   unfolding words_at word_at
   same_words p =
@@ -249,7 +249,7 @@ module _ (n limit : ℕ) (flags : List Bool) (ws vs list : List ℕ) (o : Laid_o
       let u = used_place n limit ws p t e in
       place_used n limit vs p u.0 (λ z. u.1 (sym (marks_same p u.0 i) ∙ z)) ∙ ap (λ (us : List ℕ). Some (Some us)) (same_words p ∙ u.2)
 
-  pub kept_laid_out : Laid_out n limit vs
+  pub kept_laid_out : LaidOut n limit vs
   kept_laid_out = record {
     some_qubits = o.some_qubits;
     few_qubits = o.few_qubits;
@@ -274,5 +274,5 @@ released s r flags list fs eq el o k listed e =
     let stays = kept_stays n m flags ws vs list o.laid_out k listed in
     let order = kept_order n m (contents n m ws) (contents n m vs) list o.laid_out.some_qubits o.laid_out.few_qubits o.laid_out.few_places o.places many was stays in
     let shrank = kept_shrank n m (contents n m ws) (contents n m vs) list o.laid_out.some_qubits o.laid_out.few_qubits o.laid_out.few_places o.places many was stays fs e in
-    let y = moved (λ (a b : ℕ). (Laid_out a b (vec_items r.words) × PlacesInOrder a b (contents a b (vec_items r.words))) × Shrank (meaning_of s) (meaning_over a b (contents a b (vec_items r.words))) fs) n r.qubits m r.limit eq el ((kept_laid_out n m flags ws vs list o.laid_out k listed, order), shrank) in
+    let y = moved (λ (a b : ℕ). (LaidOut a b (vec_items r.words) × PlacesInOrder a b (contents a b (vec_items r.words))) × Shrank (meaning_of s) (meaning_over a b (contents a b (vec_items r.words))) fs) n r.qubits m r.limit eq el ((kept_laid_out n m flags ws vs list o.laid_out k listed, order), shrank) in
     (record { laid_out = y.0.0; places = y.0.1 }, y.1)

@@ -33,7 +33,7 @@ pub record PlacesInOrder (n limit : ℕ) (ps : List Content) : Type 0 where
   pub apart : (p q : ℕ) (ws : List ℕ) → slice_get ps p ≡ Some (Some ws) → slice_get ps q ≡ Some (Some ws) → p ≡ q
 
 -- Words laid out for places: they suffice, and the mark of a function is made of its words.
-pub record Laid_out (n limit : ℕ) (ws : List ℕ) : Type 0 where
+pub record LaidOut (n limit : ℕ) (ws : List ℕ) : Type 0 where
   pub some_qubits : 1 ≤ n
   pub few_qubits : n ≤ 8
   pub few_places : limit ≤ 4096
@@ -41,7 +41,7 @@ pub record Laid_out (n limit : ℕ) (ws : List ℕ) : Type 0 where
   pub marked : (p : ℕ) → p < limit → (slice_index ws p ≢ 0) → slice_index ws p ≡ mark_of (words_at n limit ws p)
 
 pub record InOrder (s : TableStore) : Type 0 where
-  pub laid_out : Laid_out s.qubits s.limit (vec_items s.words)
+  pub laid_out : LaidOut s.qubits s.limit (vec_items s.words)
   pub places : PlacesInOrder s.qubits s.limit (places_of s)
 
 -- The words of the function under a handle, or the refusal that none is held under it.
@@ -70,7 +70,7 @@ SomeWith ps x limit (Some p) = (p < limit) × (slice_get ps p ≡ Some x)
 pub record Written (n limit p : ℕ) (t ws vs : List ℕ) : Type 0 where
   pub long : length vs ≡ length ws
   pub places : contents n limit vs ≡ slice_set (contents n limit ws) p (Some t)
-  pub marked : Laid_out n limit vs
+  pub marked : LaidOut n limit vs
 
 -- ---- making
 -- whether a store of n qubits can be made of some words: refusal 1, with the number of qubits if it is that, else 0

@@ -3,7 +3,7 @@ ghost use Rattle.std.specs.Prelude.{◌≡◌, ◌<◌, ◌≤◌, Some, None};
 ghost use Rattle.table_words.specs.Words.{Clean};
 ghost use Rattle.table_store.specs.Marks.{mark_of};
 ghost use Rattle.table_store.specs.Places.{width, word_at, words_at};
-ghost use Rattle.table_store.specs.Stores.{InOrder, Laid_out, places_of, FirstWith, Written};
+ghost use Rattle.table_store.specs.Stores.{InOrder, LaidOut, places_of, FirstWith, Written};
 
 use crate::TableStore;
 use table_words::PackedTable;
@@ -19,7 +19,7 @@ pub(crate) fn width(qubits: u32) -> usize
 impl TableStore {
     // Word j of the function at a place.
     fn word(&self, place: usize, j: usize) -> u64
-        requires order { Laid_out self.now.qubits self.now.limit self.now.words.items }
+        requires order { LaidOut self.now.qubits self.now.limit self.now.words.items }
         requires within { place < self.now.limit }
         ensures { result ≡ word_at self.now.qubits self.now.limit self.now.words.items place j }
     {
@@ -33,7 +33,7 @@ impl TableStore {
 
     // The words of the function at a place.
     pub(crate) fn read(&self, place: usize) -> PackedTable
-        requires order { Laid_out self.now.qubits self.now.limit self.now.words.items }
+        requires order { LaidOut self.now.qubits self.now.limit self.now.words.items }
         requires within { place < self.now.limit }
         ensures { result.words ≡ words_at self.now.qubits self.now.limit self.now.words.items place }
     {
@@ -49,7 +49,7 @@ impl TableStore {
 
     // Writes a function and its mark at a place.
     pub(crate) fn write(&mut self, place: usize, mark: u64, table: PackedTable)
-        requires order { Laid_out self.old.qubits self.old.limit self.old.words.items }
+        requires order { LaidOut self.old.qubits self.old.limit self.old.words.items }
         requires within { place < self.old.limit }
         requires mark { mark ≡ mark_of table.words }
         requires clean { Clean self.old.qubits table.words }

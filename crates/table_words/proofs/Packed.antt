@@ -6,22 +6,22 @@ use Rattle.std.proofs.lemmas.List.{get_or_past}
 use Rattle.exact.specs.Indices.{Index, number, bit, with_bit}
 use Rattle.functions.specs.Tables.{value_at, digit, constant, literal, fixed, ruled, combined}
 use Rattle.table_words.specs.declared.PackedTable.{PackedTable}
-use Rattle.table_words.specs.Words.{bit_of, BitsOf, word_bit, unpacked, Has_bits, Packs}
+use Rattle.table_words.specs.Words.{bit_of, BitsOf, word_bit, unpacked, HasBits, Packs}
 use Rattle.table_words.proofs.Bits.{all_ones, zero_bits, rule_bits}
 use Rattle.table_words.proofs.Words.{unpacked_at, word_bit_split, four_words, cleaned, packs_listing}
 use Rattle.table_words.proofs.Settings.{index_bit, with_bit_number}
 
 -- the same bits, told otherwise
-has_bits_as : (n : ℕ) (p q : ℕ → Bool) (t : PackedTable) → n ≤ 8 → ((i : ℕ) → i < 256 → p i ≡ q i) → Has_bits n p t → Has_bits n q t
+has_bits_as : (n : ℕ) (p q : ℕ → Bool) (t : PackedTable) → n ≤ 8 → ((i : ℕ) → i < 256 → p i ≡ q i) → HasBits n p t → HasBits n q t
 has_bits_as n p q t few h b = record { values = λ i l. (let m : 2 ^ n ≤ 2 ^ 8 = pow_mono few in b.values i l ∙ h i (omega arith)); clean = b.clean }
 
-pub four_has_bits : (n a b c d : ℕ) (p : ℕ → Bool) (t : PackedTable) → n ≤ 8 → BitsOf a (λ i. p (0 + i)) → BitsOf b (λ i. p (64 + i)) → BitsOf c (λ i. p (128 + i)) → BitsOf d (λ i. p (192 + i)) → Has_bits n (word_bit (a ∷ b ∷ c ∷ d ∷ [])) t → Has_bits n p t
+pub four_has_bits : (n a b c d : ℕ) (p : ℕ → Bool) (t : PackedTable) → n ≤ 8 → BitsOf a (λ i. p (0 + i)) → BitsOf b (λ i. p (64 + i)) → BitsOf c (λ i. p (128 + i)) → BitsOf d (λ i. p (192 + i)) → HasBits n (word_bit (a ∷ b ∷ c ∷ d ∷ [])) t → HasBits n p t
 four_has_bits n a b c d p t few ha hb hc hd h = has_bits_as n (word_bit (a ∷ b ∷ c ∷ d ∷ [])) p t few (four_words a b c d p ha hb hc hd) h
 
 -- each of four words without the bits that are no index's
 pub four_cleaned : (n : ℕ) (ws : List ℕ) (a b c d : ℕ) → length ws ≡ 4
     → a ≡ 2 ^ min 64 (2 ^ n - 64 * 0) - 1 → b ≡ 2 ^ min 64 (2 ^ n - 64 * 1) - 1 → c ≡ 2 ^ min 64 (2 ^ n - 64 * 2) - 1 → d ≡ 2 ^ min 64 (2 ^ n - 64 * 3) - 1
-    → Has_bits n (word_bit ws) (record { words = bit_and (get_or ws 0 0) a ∷ bit_and (get_or ws 1 0) b ∷ bit_and (get_or ws 2 0) c ∷ bit_and (get_or ws 3 0) d ∷ [] })
+    → HasBits n (word_bit ws) (record { words = bit_and (get_or ws 0 0) a ∷ bit_and (get_or ws 1 0) b ∷ bit_and (get_or ws 2 0) c ∷ bit_and (get_or ws 3 0) d ∷ [] })
 four_cleaned n ws a b c d l ea eb ec ed = cleaned n ws _ go
   where
     masked : (j m : ℕ) → m ≡ 2 ^ min 64 (2 ^ n - 64 * j) - 1 → bit_and (get_or ws j 0) m ≡ get_or ws j 0 % 2 ^ min 64 (2 ^ n - 64 * j)
@@ -35,7 +35,7 @@ four_cleaned n ws a b c d l ea eb ec ed = cleaned n ws _ go
     go (suc (suc (suc (suc j)))) = sym (ap (λ (w : ℕ). w % 2 ^ min 64 (2 ^ n - 64 * suc (suc (suc (suc j))))) (get_or_past ws (suc (suc (suc (suc j)))) 0 (omega arith)) ∙ mod-eq_of_lt (pow_pos (min 64 (2 ^ n - 64 * suc (suc (suc (suc j)))))))
 
 -- a word that is all of one bit
-pub constant_packed : (n w : ℕ) (b : Bool) (t : PackedTable) → n ≤ 8 → BitsOf w (λ i. b) → Has_bits n (word_bit (w ∷ w ∷ w ∷ w ∷ [])) t → Packs n (constant n b) t
+pub constant_packed : (n w : ℕ) (b : Bool) (t : PackedTable) → n ≤ 8 → BitsOf w (λ i. b) → HasBits n (word_bit (w ∷ w ∷ w ∷ w ∷ [])) t → Packs n (constant n b) t
 unfolding constant
 constant_packed n w b t few h x = packs_listing n (λ i. b) (λ y. b) t (λ y l. refl) (four_has_bits n w w w w (λ i. b) t few h h h h x)
 
@@ -45,11 +45,11 @@ ones_word i l = all_ones 64 i l
 pub zeros_word : BitsOf 0 (λ i. false)
 zeros_word i l = zero_bits i
 
-pub literal_packed : (n q : ℕ) (t : PackedTable) → q < n → Has_bits n (λ i. bit_of i (n - 1 - q)) t → Packs n (literal n q) t
+pub literal_packed : (n q : ℕ) (t : PackedTable) → q < n → HasBits n (λ i. bit_of i (n - 1 - q)) t → Packs n (literal n q) t
 unfolding literal
 literal_packed n q t h b = packs_listing n (λ i. bit_of i (n - 1 - q)) (λ x. bit x q) t (λ x l. sym (index_bit n q x l h)) b
 
-pub fixed_packed : (n q : ℕ) (ws : List ℕ) (c : Bool) (t : PackedTable) → q < n → Has_bits n (λ i. word_bit ws (i - i / 2 ^ (n - 1 - q) % 2 * 2 ^ (n - 1 - q) + digit c * 2 ^ (n - 1 - q))) t → Packs n (fixed n (unpacked n ws) q c) t
+pub fixed_packed : (n q : ℕ) (ws : List ℕ) (c : Bool) (t : PackedTable) → q < n → HasBits n (λ i. word_bit ws (i - i / 2 ^ (n - 1 - q) % 2 * 2 ^ (n - 1 - q) + digit c * 2 ^ (n - 1 - q))) t → Packs n (fixed n (unpacked n ws) q c) t
 unfolding fixed
 fixed_packed n q ws c t h b =
     packs_listing n (λ i. word_bit ws (i - i / 2 ^ (n - 1 - q) % 2 * 2 ^ (n - 1 - q) + digit c * 2 ^ (n - 1 - q))) (λ x. value_at (unpacked n ws) (with_bit x q c)) t
@@ -69,7 +69,7 @@ module _ (n rule : ℕ) (fs gs hs : List ℕ) where
       → BitsOf b (λ i. ruled rule (bit_of (get_or fs 1 0) i) (bit_of (get_or gs 1 0) i) (bit_of (get_or hs 1 0) i))
       → BitsOf c (λ i. ruled rule (bit_of (get_or fs 2 0) i) (bit_of (get_or gs 2 0) i) (bit_of (get_or hs 2 0) i))
       → BitsOf d (λ i. ruled rule (bit_of (get_or fs 3 0) i) (bit_of (get_or gs 3 0) i) (bit_of (get_or hs 3 0) i))
-      → Has_bits n (word_bit (a ∷ b ∷ c ∷ d ∷ [])) t → Packs n (combined n rule (unpacked n fs) (unpacked n gs) (unpacked n hs)) t
+      → HasBits n (word_bit (a ∷ b ∷ c ∷ d ∷ [])) t → Packs n (combined n rule (unpacked n fs) (unpacked n gs) (unpacked n hs)) t
   unfolding combined
   combined_packed a b c d t few ha hb hc hd x =
       packs_listing n (λ i. ruled rule (word_bit fs i) (word_bit gs i) (word_bit hs i)) (λ y. ruled rule (value_at (unpacked n fs) y) (value_at (unpacked n gs) y) (value_at (unpacked n hs) y)) t values

@@ -9,7 +9,7 @@ use Rattle.exact.proofs.Listings.{length_listing, listing_same, at_listing}
 use Rattle.exact.proofs.Tables.{length_bits, number_of_bits}
 use Rattle.functions.specs.Tables.{Table, value_at}
 use Rattle.table_words.specs.declared.PackedTable.{PackedTable}
-use Rattle.table_words.specs.Words.{bit_of, BitsOf, word_bit, unpacked, Clean, Has_bits, Packs, same_words}
+use Rattle.table_words.specs.Words.{bit_of, BitsOf, word_bit, unpacked, Clean, HasBits, Packs, same_words}
 use Rattle.table_words.proofs.Bits.{low_bits, high_bits, same_bits}
 
 pub length_unpacked : (n : ℕ) (ws : List ℕ) → length (unpacked n ws) ≡ 2 ^ n
@@ -47,7 +47,7 @@ four_words a b c d p ha hb hc hd i l = go (i / 64) refl
     go (suc (suc (suc (suc j)))) e = absurd (omega arith)
 
 -- the words without the bits that are no index's
-pub cleaned : (n : ℕ) (ws : List ℕ) (t : PackedTable) → ((j : ℕ) → get_or t.words j 0 ≡ get_or ws j 0 % 2 ^ min 64 (2 ^ n - 64 * j)) → Has_bits n (word_bit ws) t
+pub cleaned : (n : ℕ) (ws : List ℕ) (t : PackedTable) → ((j : ℕ) → get_or t.words j 0 ≡ get_or ws j 0 % 2 ^ min 64 (2 ^ n - 64 * j)) → HasBits n (word_bit ws) t
 unfolding word_bit Clean
 cleaned n ws t h = record {
   values = λ i l.
@@ -62,7 +62,7 @@ unfolding word_bit Clean
 clean_above n ws i c l = high_bits (get_or ws (i / 64) 0) (min 64 (2 ^ n - 64 * (i / 64))) (i % 64) (c (i / 64)) (omega arith)
 
 -- bits that are a function's values
-pub packs_listing : (n : ℕ) (p : ℕ → Bool) (f : Index → Bool) (t : PackedTable) → ((x : Index) → length x ≡ n → p (number x) ≡ f x) → Has_bits n p t → Packs n (listing n f) t
+pub packs_listing : (n : ℕ) (p : ℕ → Bool) (f : Index → Bool) (t : PackedTable) → ((x : Index) → length x ≡ n → p (number x) ≡ f x) → HasBits n p t → Packs n (listing n f) t
 unfolding unpacked
 packs_listing n p f t h b = record {
   table = listing_same n (λ x. word_bit t.words (number x)) f (λ x l. b.values (number x) (subst (λ (m : ℕ). number x < 2 ^ m) l (number_below x)) ∙ h x l);

@@ -25,7 +25,7 @@ unfoldable pub Clean : ℕ → List ℕ → Type 0
 Clean n ws = (j : ℕ) → slice_index ws j < 2 ^ min 64 (2 ^ n - 64 * j)
 
 -- t has the bits of p below 2^n, and no other
-pub record Has_bits (n : ℕ) (p : ℕ → Bool) (t : PackedTable) : Type 0 where
+pub record HasBits (n : ℕ) (p : ℕ → Bool) (t : PackedTable) : Type 0 where
   pub values : (i : ℕ) → i < 2 ^ n → word_bit t.words i ≡ p i
   pub clean : Clean n t.words
 

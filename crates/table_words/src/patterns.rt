@@ -1,7 +1,7 @@
 //! Tables made value by value: literals, and functions with a qubit fixed.
 ghost use Rattle.std.specs.Prelude.{◌≡◌, ℕ, ◌+◌, ◌-◌, ◌*◌, ◌/◌, ◌%◌, ◌^◌, ◌<◌, ◌≤◌, Bool};
 ghost use Rattle.functions.specs.Tables.{digit, literal, fixed};
-ghost use Rattle.table_words.specs.Words.{bit_of, BitsOf, word_bit, unpacked, Has_bits, Packs};
+ghost use Rattle.table_words.specs.Words.{bit_of, BitsOf, word_bit, unpacked, HasBits, Packs};
 
 use crate::PackedTable;
 use exact::Qubit;
@@ -58,8 +58,8 @@ impl Pattern for BitSet {
 // The word of a pattern's values at 64 indices.
 fn pattern_word<P: Pattern>(pattern: &P, first: u32) -> u64
     requires within { first + 64 ≤ 256 }
-    requires ready { ready pattern.now }
-    ensures { BitsOf result (λ i. values pattern.now (first + i)) }
+    requires ready { P.ready pattern.now }
+    ensures { BitsOf result (λ i. P.values pattern.now (first + i)) }
 {
     let mut word = 0u64;
     let mut i = 64u32;
@@ -73,8 +73,8 @@ fn pattern_word<P: Pattern>(pattern: &P, first: u32) -> u64
 // The table of a pattern.
 fn packed<P: Pattern>(qubits: u32, pattern: &P) -> PackedTable
     requires few { qubits ≤ 8 }
-    requires ready { ready pattern.now }
-    ensures { Has_bits qubits (values pattern.now) result }
+    requires ready { P.ready pattern.now }
+    ensures { HasBits qubits (P.values pattern.now) result }
 {
     let words = [
         pattern_word(pattern, 0),

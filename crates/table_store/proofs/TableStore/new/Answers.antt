@@ -7,8 +7,8 @@ use Rattle.table_store.proofs.TableStore.new.Goals as goal
 pub limit-limit-requires : goal.limit-limit-requires
 limit-limit-requires c = (passed_range c.args.qubits c.len.result (sym (sym c.check.ensures ∙ c.in-Ok.is))).1
 
-pub index-mut-requires : goal.index-mut-requires
-index-mut-requires c =
+pub index_mut-requires : goal.index_mut-requires
+index_mut-requires c =
     let a : limit_of c.args.qubits c.len-in-Ok.result ≤ c.len-in-Ok.result = limit_below c.args.qubits c.len-in-Ok.result in
     omega (arith, a, c.loop-place-test.true, c.limit-limit.ensures, c.len-in-Ok.ensures, c.loop-place.invariant.long, c.args.words.ok.0, c.loop-place.words.ok.0)
 

@@ -3,14 +3,14 @@ use Rattle.table_store.proofs.Laid.{width_few}
 use Rattle.table_store.proofs.Looking.{small_product, place_within, word_read, word_past}
 use Rattle.table_store.proofs.TableStore.word.Goals as goal
 
-pub overflow-mul-width : goal.overflow-mul-width
-overflow-mul-width c = omega (arith, small_product _ _ _ _ c.width-width.ensures c.requires.order.few_qubits c.requires.order.few_places c.requires.within)
+pub overflow_mul-width : goal.overflow_mul-width
+overflow_mul-width c = omega (arith, small_product _ _ _ _ c.width-width.ensures c.requires.order.few_qubits c.requires.order.few_places c.requires.within)
 
-pub overflow-add-self : goal.overflow-add-self
-overflow-add-self c = omega (arith, small_product _ _ _ _ c.width-width.ensures c.requires.order.few_qubits c.requires.order.few_places c.requires.within, c.requires.order.few_places)
+pub overflow_add-self : goal.overflow_add-self
+overflow_add-self c = omega (arith, small_product _ _ _ _ c.width-width.ensures c.requires.order.few_qubits c.requires.order.few_places c.requires.within, c.requires.order.few_places)
 
-pub overflow-add-self-then-j-width : goal.overflow-add-self-then-j-width
-overflow-add-self-then-j-width c = omega (arith, small_product _ _ _ _ c.width-width.ensures c.requires.order.few_qubits c.requires.order.few_places c.requires.within, c.requires.order.few_places, c.if-j-width.true, c.width-width.type-inv, width_few _ c.requires.order.few_qubits, c.width-width.ensures)
+pub overflow_add-self-then-j-width : goal.overflow_add-self-then-j-width
+overflow_add-self-then-j-width c = omega (arith, small_product _ _ _ _ c.width-width.ensures c.requires.order.few_qubits c.requires.order.few_places c.requires.within, c.requires.order.few_places, c.if-j-width.true, c.width-width.type_inv, width_few _ c.requires.order.few_qubits, c.width-width.ensures)
 
 pub index-requires : goal.index-requires
 index-requires c = omega (arith, place_within _ _ _ _ _ _ c.width-width.ensures c.requires.order c.requires.within c.if-j-width.true, c.args.self.now.words.ok.0)

@@ -5,23 +5,23 @@ use Rattle.table_store.proofs.Laid.{width_few, Writing, writing_more, writing_al
 use Rattle.table_store.proofs.Looking.{small_product, place_within}
 use Rattle.table_store.proofs.TableStore.write.Goals as goal
 
-pub overflow-mul-first : goal.overflow-mul-first
-overflow-mul-first c = omega (arith, small_product _ _ _ _ c.width-width.ensures c.requires.order.few_qubits c.requires.order.few_places c.requires.within)
+pub overflow_mul-first : goal.overflow_mul-first
+overflow_mul-first c = omega (arith, small_product _ _ _ _ c.width-width.ensures c.requires.order.few_qubits c.requires.order.few_places c.requires.within)
 
-pub overflow-add-first : goal.overflow-add-first
-overflow-add-first c = omega (arith, small_product _ _ _ _ c.width-width.ensures c.requires.order.few_qubits c.requires.order.few_places c.requires.within, c.requires.order.few_places)
+pub overflow_add-first : goal.overflow_add-first
+overflow_add-first c = omega (arith, small_product _ _ _ _ c.width-width.ensures c.requires.order.few_qubits c.requires.order.few_places c.requires.within, c.requires.order.few_places)
 
-pub offset-bounds-table-j : goal.offset-bounds-table-j
-offset-bounds-table-j c = omega (arith, c.loop-j-test.true, c.width-width.ensures, width_few c.args.self.now.qubits c.requires.order.few_qubits)
+pub offset_bounds-table-j : goal.offset_bounds-table-j
+offset_bounds-table-j c = omega (arith, c.loop-j-test.true, c.width-width.ensures, width_few c.args.self.now.qubits c.requires.order.few_qubits)
 
 pub bounds-table-j : goal.bounds-table-j
 bounds-table-j c = omega (arith, c.loop-j-test.true, c.width-width.ensures, width_few c.args.self.now.qubits c.requires.order.few_qubits)
 
-pub overflow-add-first-in-loop-j : goal.overflow-add-first-in-loop-j
-overflow-add-first-in-loop-j c = omega (arith, small_product _ _ _ _ c.width-width.ensures c.requires.order.few_qubits c.requires.order.few_places c.requires.within, c.requires.order.few_places, c.loop-j-test.true, c.width-width.ensures, width_few c.args.self.now.qubits c.requires.order.few_qubits)
+pub overflow_add-first-in-loop-j : goal.overflow_add-first-in-loop-j
+overflow_add-first-in-loop-j c = omega (arith, small_product _ _ _ _ c.width-width.ensures c.requires.order.few_qubits c.requires.order.few_places c.requires.within, c.requires.order.few_places, c.loop-j-test.true, c.width-width.ensures, width_few c.args.self.now.qubits c.requires.order.few_qubits)
 
-pub index-mut-requires-in-loop-j : goal.index-mut-requires-in-loop-j
-index-mut-requires-in-loop-j c =
+pub index_mut-requires-in-loop-j : goal.index_mut-requires-in-loop-j
+index_mut-requires-in-loop-j c =
     let a = place_within _ _ _ _ c.loop-j.j (vec_items c.args.self.now.words) c.width-width.ensures c.requires.order c.requires.within c.loop-j-test.true in
     omega (arith, a, c.loop-j.invariant.0.long, length-set (vec_items c.args.self.now.words) c.args.place c.args.mark, c.loop-j.self.words.ok.0)
 

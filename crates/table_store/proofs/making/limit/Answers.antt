@@ -4,8 +4,8 @@ use Rattle.table_store.specs.Places.{limit_of}
 use Rattle.table_store.proofs.Laid.{width_few}
 use Rattle.table_store.proofs.making.limit.Goals as goal
 
-pub overflow-add-width : goal.overflow-add-width
-overflow-add-width c = omega (arith, c.width.ensures, width_few c.args.qubits c.requires)
+pub overflow_add-width : goal.overflow_add-width
+overflow_add-width c = omega (arith, c.width.ensures, width_few c.args.qubits c.requires)
 
 pub returns : goal.returns
 unfolding limit_of
