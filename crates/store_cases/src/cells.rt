@@ -14,8 +14,8 @@ pub struct Cells<S> {
 impl<S: FunctionStore> Cells<S> {
     /// The constants in cells 0 and 1, and 0 in the others.
     pub fn over(store: S) -> Cells<S>
-        requires { ordered store }
-        ensures { ordered result.store }
+        requires { S.ordered store }
+        ensures { S.ordered result.store }
     {
         let mut handles = [0; 16];
         handles[1] = 1;
@@ -24,8 +24,8 @@ impl<S: FunctionStore> Cells<S> {
 
     /// Makes a call and prints what it answers.
     pub fn answer(&mut self, rt: &HostRuntime, words: &[&str]) -> anyhow::Result<()>
-        requires { ordered self.old.store }
-        ensures { ordered self.new.store }
+        requires { S.ordered self.old.store }
+        ensures { S.ordered self.new.store }
     {
         match words {
             ["literal", cell, q] => {
@@ -51,7 +51,7 @@ impl<S: FunctionStore> Cells<S> {
 
     // Answers a question.
     fn ask(&self, rt: &HostRuntime, words: &[&str]) -> anyhow::Result<()>
-        requires { ordered self.now.store }
+        requires { S.ordered self.now.store }
     {
         match words {
             ["value", f, index] => {
@@ -83,8 +83,8 @@ impl<S: FunctionStore> Cells<S> {
 
     // Keeps the functions of some cells, which are written with commas between them.
     fn keep(&mut self, rt: &HostRuntime, cells: &str) -> anyhow::Result<()>
-        requires { ordered self.old.store }
-        ensures { ordered self.new.store }
+        requires { S.ordered self.old.store }
+        ensures { S.ordered self.new.store }
     {
         let mut list = Vec::new(rt.alloc());
         for cell in cells.split(',') {
@@ -114,8 +114,8 @@ impl<S: FunctionStore> Cells<S> {
         made: Result<u32, StoreFault>,
         asked: &[u32],
     ) -> anyhow::Result<()>
-        requires { ordered self.old.store }
-        ensures { ordered self.new.store }
+        requires { S.ordered self.old.store }
+        ensures { S.ordered self.new.store }
     {
         let cell = cell.parse::<usize>()?;
         if cell >= 16 {
@@ -132,7 +132,7 @@ impl<S: FunctionStore> Cells<S> {
 
     // The number of ones of a function, and its values at the indices 0, 1, 2 and 255, where they are.
     fn show(&self, rt: &HostRuntime, f: u32) -> anyhow::Result<()>
-        requires { ordered self.now.store }
+        requires { S.ordered self.now.store }
     {
         match self.store.ones(f) {
             Ok(ones) => print!(rt; "{ones}")?,
