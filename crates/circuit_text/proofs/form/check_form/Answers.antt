@@ -1,14 +1,14 @@
 use Rattle.std.proofs.Common.{◌≡◌, ℕ, List, Ok, Err, Result, sym, refl, ap, ◌∙◌, subst}
 use Rattle.std.proofs.lemmas.Bool.{cond-true, cond-false, lt-ltb, le-ltb}
-use Rattle.text◌reader.specs.declared.fault.TextFault.{TextFault}
-use Rattle.text◌grammar.specs.Verdicts.{parsed, located}
-use Rattle.text◌grammar.proofs.Verdict.{right}
-use Rattle.text◌fields.specs.Reading.{onward}
+use Rattle.text_reader.specs.declared.fault.TextFault.{TextFault}
+use Rattle.text_grammar.specs.Verdicts.{parsed, located}
+use Rattle.text_grammar.proofs.Verdict.{right}
+use Rattle.text_fields.specs.Reading.{onward}
 use Rattle.circuit_text.specs.Forms.{checked, with_form, form_read, FormVerdict}
-use Rattle.text◌grammar.specs.Syntaxes as syntax
+use Rattle.text_grammar.specs.Syntaxes as syntax
 use Rattle.text_grammar.specs.Circuits.{Circuit}
-use Rattle.text◌grammar.specs.Verdicts.{Right}
-use Rattle.text◌grammar.specs.Syntaxes.{read}
+use Rattle.text_grammar.specs.Verdicts.{Right}
+use Rattle.text_grammar.specs.Syntaxes.{read}
 use Rattle.circuit_text.specs.declared.form.Form.{Form}
 use Rattle.circuit_text.proofs.form.check_form.Goals as goal
 

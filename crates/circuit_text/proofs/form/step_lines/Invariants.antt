@@ -1,6 +1,6 @@
 use Rattle.std.proofs.Common.{List}
-use Rattle.text◌grammar.specs.Circuits.{Step}
-use Rattle.text◌grammar.specs.Syntaxes as syntax
+use Rattle.text_grammar.specs.Circuits.{Step}
+use Rattle.text_grammar.specs.Syntaxes as syntax
 use Rattle.text_fields.proofs.Several.{Underway}
 use Rattle.circuit_text.proofs.form.step_lines.Given as goal
 
