@@ -21,9 +21,9 @@ both : (text : List ℕ) (r : Result Form TextFault) → r ≡ checked text → 
 unfolding checked
 both text r e = record { equals = e; right = subst (FormVerdict text) (sym e) (verdict text (parsed text) (right text)) }
 
-pub returns-then-text-gt-MAX-BYTES : goal.returns-then-text-gt-MAX-BYTES
+pub returns-then-text-gt-MAX_BYTES : goal.returns-then-text-gt-MAX_BYTES
 unfolding checked parsed
-returns-then-text-gt-MAX-BYTES c = both c.args.text.now _ (sym (ap with_form (cond-true _ _ _ (lt-ltb _ _ c.if-text-gt-MAX-BYTES.true))))
+returns-then-text-gt-MAX_BYTES c = both c.args.text.now _ (sym (ap with_form (cond-true _ _ _ (lt-ltb _ _ c.if-text-gt-MAX_BYTES.true))))
 
 pub returns : goal.returns
 unfolding checked parsed onward
@@ -32,4 +32,4 @@ returns c =
     both c.args.text.now _ (
     c.circuit.ensures
     ∙ (λ i. form_read (located (h.same i) (read syntax.circuit (h.whole i))))
-    ∙ sym (ap with_form (cond-false _ _ _ (le-ltb _ _ c.if-text-gt-MAX-BYTES.false))))
+    ∙ sym (ap with_form (cond-false _ _ _ (le-ltb _ _ c.if-text-gt-MAX_BYTES.false))))
