@@ -6,6 +6,7 @@ mod input;
 
 use circuit_text::{CircuitText, Form};
 use input::Request;
+use std::process::ExitCode;
 use text_reader::TextFault;
 
 const HELP: &str = "slicesim: an exact simulator for quantum circuits
@@ -19,19 +20,16 @@ counts of its sections. Any other is answered by `refused NUMBER LINE COLUMN`
 on standard output and a sentence on standard error, with exit status 1.";
 
 const VERSION: &str = "slicesim 0.1.0
-proved with rattle-kit-8b logic 7f726aa041520687";
+proved with rattle-kit-13f logic dac8208d650f15bf";
 
-/// Ends the program with status 1, once everything that is to be said has been written.
-#[derive(Drop)]
-struct Failed;
-
-fn main(rt: HostRuntime) -> Result<(), Failed> {
+/// Ends with status 1, once everything that is to be said has been written, where no text was accepted.
+fn main(rt: HostRuntime) -> ExitCode {
     match run(&rt) {
-        Ok(true) => Ok(()),
-        Ok(false) => Err(Failed),
+        Ok(true) => ExitCode::SUCCESS,
+        Ok(false) => ExitCode::FAILURE,
         Err(error) => {
             let _ = eprintln!(rt; "slicesim: {error}");
-            Err(Failed)
+            ExitCode::FAILURE
         }
     }
 }

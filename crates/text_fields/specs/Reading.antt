@@ -1,13 +1,13 @@
 -- How a reader goes on by a syntax, and what the values that it reads stand for.
 use Rattle.std.specs.Prelude.{◌≡◌, ℕ, ◌-◌, Bool, List, ◌++◌, length, replicate, Ok, Err, Result}
-use Rattle.text◌reader.specs.declared.reader.Reader.{Reader}
-use Rattle.text◌reader.specs.declared.fault.TextFault.{TextFault}
-use Rattle.text◌reader.specs.Reading.{text_of, rest}
-use Rattle.text◌words.specs.declared.spelling.CountRange.{CountRange}
+use Rattle.text_reader.specs.declared.reader.Reader.{Reader}
+use Rattle.text_reader.specs.declared.fault.TextFault.{TextFault}
+use Rattle.text_reader.specs.Reading.{text_of, rest}
+use Rattle.text_words.specs.declared.spelling.CountRange.{CountRange}
 use Rattle.exact.specs.Indices.{number}
-use Rattle.text◌grammar.specs.Circuits as circuit
-use Rattle.text◌grammar.specs.Syntaxes.{Syntax, read}
-use Rattle.text◌grammar.specs.Syntaxes as syntax
+use Rattle.text_grammar.specs.Circuits as circuit
+use Rattle.text_grammar.specs.Syntaxes.{Syntax, read}
+use Rattle.text_grammar.specs.Syntaxes as syntax
 use Rattle.text_grammar.specs.Verdicts.{located}
 
 -- what is read by a syntax from where a reader stands, or the fault

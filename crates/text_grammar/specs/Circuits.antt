@@ -1,7 +1,7 @@
 -- A circuit as a value, its lines, its one text, and which circuits are in range.
 use Rattle.std.specs.Prelude.{◌≡◌, ℕ, ◌≤◌, Bool, List, [], ◌∷◌, ◌++◌, map, length, decimal}
 use Rattle.exact.specs.Indices.{Index}
-use Rattle.std.specs.List.{flat_map, AllByRecursion as All}
+use Rattle.std.specs.List.{flat_map, AllByRecursion}
 use Rattle.text_words.specs.declared.spelling.Section.{Section}
 use Rattle.text_words.specs.declared.spelling.Section.TheVariants.{Qubits, Opens, Steps, Reads}
 use Rattle.text_words.specs.declared.spelling.CountRange.{CountRange}
@@ -95,7 +95,7 @@ abbrev pub FitsOpening : ℕ → Opening → Type 0
 FitsOpening n o = Small o.register × (length o.index ≡ n)
 
 abbrev pub FitsStep : Step → Type 0
-FitsStep s = (length s.numbers ≡ numbers_of s.name) × All Small s.numbers
+FitsStep s = (length s.numbers ≡ numbers_of s.name) × AllByRecursion Small s.numbers
 
 unfoldable pub FitsQuestion : ℕ → Question → Type 0
 FitsQuestion n (amp r bits) = Small r × (length bits ≡ n)
@@ -108,9 +108,9 @@ pub record InRanges (ranges : Ranges) (c : Circuit) : Type 0 where
   pub opens_within : Within (ranges Opens) (length c.opens)
   pub steps_within : Within (ranges Steps) (length c.steps)
   pub reads_within : Within (ranges Reads) (length c.reads)
-  pub opens_fit : All (FitsOpening c.qubits) c.opens
-  pub steps_fit : All FitsStep c.steps
-  pub reads_fit : All (FitsQuestion c.qubits) c.reads
+  pub opens_fit : AllByRecursion (FitsOpening c.qubits) c.opens
+  pub steps_fit : AllByRecursion FitsStep c.steps
+  pub reads_fit : AllByRecursion (FitsQuestion c.qubits) c.reads
 
 abbrev pub InRange : Circuit → Type 0
 InRange c = InRanges range_of c

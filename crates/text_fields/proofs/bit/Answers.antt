@@ -9,7 +9,7 @@ pub returns-in-Some : goal.returns-in-Some
 unfolding syntax.bit
 returns-in-Some c =
     let t = bit_told _ _ c.in-Some.ensures.equals in
-    (◌, (refl, reached_word c.word-word.ensures _ _ _ (ap when t.0) t.1))
+    (_, (refl, reached_word c.word-word.ensures _ _ _ (ap when t.0) t.1))
 
 pub returns-in-None : goal.returns-in-None
 unfolding syntax.bit

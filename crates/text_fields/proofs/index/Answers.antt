@@ -10,7 +10,7 @@ pub returns-in-Some : goal.returns-in-Some
 unfolding syntax.index
 returns-in-Some c =
     let t = index_told _ _ _ c.in-Some.ensures.equals in
-    (◌, (t.1, reached_word c.word-word.ensures _ bits_of _ (ap when t.0) refl))
+    (_, (t.1, reached_word c.word-word.ensures _ bits_of _ (ap when t.0) refl))
 
 pub returns-in-None : goal.returns-in-None
 unfolding syntax.index

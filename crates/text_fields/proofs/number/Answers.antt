@@ -8,7 +8,7 @@ pub returns-in-Some : goal.returns-in-Some
 unfolding syntax.number
 returns-in-Some c =
     let h = sym c.in-Some.ensures.equals in
-    (◌, (refl, reached_word c.word-word.ensures _ _ _ (ap fitting h) (ap (otherwise 0) h)))
+    (_, (refl, reached_word c.word-word.ensures _ _ _ (ap fitting h) (ap (otherwise 0) h)))
 
 pub returns-in-None : goal.returns-in-None
 unfolding syntax.number

@@ -8,7 +8,7 @@ pub returns-in-Some : goal.returns-in-Some
 unfolding syntax.step_name
 returns-in-Some c =
     let h = sym c.in-Some.ensures in
-    (◌, (refl, reached_word c.word-word.ensures _ _ _ (ap fitting h) (ap (otherwise _) h)))
+    (_, (refl, reached_word c.word-word.ensures _ _ _ (ap fitting h) (ap (otherwise _) h)))
 
 pub returns-in-None : goal.returns-in-None
 unfolding syntax.step_name

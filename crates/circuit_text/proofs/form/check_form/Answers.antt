@@ -1,14 +1,14 @@
 use Rattle.std.proofs.Common.{◌≡◌, ℕ, List, Ok, Err, Result, sym, refl, ap, ◌∙◌, subst}
 use Rattle.std.proofs.lemmas.Bool.{cond-true, cond-false, lt-ltb, le-ltb}
-use Rattle.text◌reader.specs.declared.fault.TextFault.{TextFault}
-use Rattle.text◌grammar.specs.Verdicts.{parsed, located}
-use Rattle.text◌grammar.proofs.Verdict.{right}
-use Rattle.text◌fields.specs.Reading.{onward}
+use Rattle.text_reader.specs.declared.fault.TextFault.{TextFault}
+use Rattle.text_grammar.specs.Verdicts.{parsed, located}
+use Rattle.text_grammar.proofs.Verdict.{right}
+use Rattle.text_fields.specs.Reading.{onward}
 use Rattle.circuit_text.specs.Forms.{checked, with_form, form_read, FormVerdict}
-use Rattle.text◌grammar.specs.Syntaxes as syntax
+use Rattle.text_grammar.specs.Syntaxes as syntax
 use Rattle.text_grammar.specs.Circuits.{Circuit}
-use Rattle.text◌grammar.specs.Verdicts.{Right}
-use Rattle.text◌grammar.specs.Syntaxes.{read}
+use Rattle.text_grammar.specs.Verdicts.{Right}
+use Rattle.text_grammar.specs.Syntaxes.{read}
 use Rattle.circuit_text.specs.declared.form.Form.{Form}
 use Rattle.circuit_text.proofs.form.check_form.Goals as goal
 
@@ -21,9 +21,9 @@ both : (text : List ℕ) (r : Result Form TextFault) → r ≡ checked text → 
 unfolding checked
 both text r e = record { equals = e; right = subst (FormVerdict text) (sym e) (verdict text (parsed text) (right text)) }
 
-pub returns-then-text-gt-MAX-BYTES : goal.returns-then-text-gt-MAX-BYTES
+pub returns-then-text-gt-MAX_BYTES : goal.returns-then-text-gt-MAX_BYTES
 unfolding checked parsed
-returns-then-text-gt-MAX-BYTES c = both c.args.text.now _ (sym (ap with_form (cond-true _ _ _ (lt-ltb _ _ c.if-text-gt-MAX-BYTES.true))))
+returns-then-text-gt-MAX_BYTES c = both c.args.text.now _ (sym (ap with_form (cond-true _ _ _ (lt-ltb _ _ c.if-text-gt-MAX_BYTES.true))))
 
 pub returns : goal.returns
 unfolding checked parsed onward
@@ -32,4 +32,4 @@ returns c =
     both c.args.text.now _ (
     c.circuit.ensures
     ∙ (λ i. form_read (located (h.same i) (read syntax.circuit (h.whole i))))
-    ∙ sym (ap with_form (cond-false _ _ _ (le-ltb _ _ c.if-text-gt-MAX-BYTES.false))))
+    ∙ sym (ap with_form (cond-false _ _ _ (le-ltb _ _ c.if-text-gt-MAX_BYTES.false))))

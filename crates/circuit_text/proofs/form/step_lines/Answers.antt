@@ -7,13 +7,13 @@ use Rattle.circuit_text.proofs.form.step_lines.Goals as goal
 pub loop-i-init : goal.loop-i-init
 loop-i-init c = ([], underway_none syntax.step c.args.total c.args.reader.now)
 
-pub returns-in-err-step : goal.returns-in-err-step
-returns-in-err-step c = follows_stuck _ _ _ _ _ _ c.from-residual.ensures.1 (underway_stuck _ _ _ _ _ _ c.loop-i.invariant.1 c.loop-i-test.true _ c.in-err-step.ensures)
+pub returns-in_err-step : goal.returns-in_err-step
+returns-in_err-step c = follows_stuck _ _ _ _ _ _ c.from_residual.ensures.1 (underway_stuck _ _ _ _ _ _ c.loop-i.invariant.1 c.loop-i-test.true _ c.in_err-step.ensures)
 
 pub loop-i-preserved : goal.loop-i-preserved
-loop-i-preserved c = (_, underway_more _ _ _ _ _ _ c.loop-i.invariant.1 _ c.loop-i-test.true _ c.in-ok-step.ensures.1.1)
+loop-i-preserved c = (_, underway_more _ _ _ _ _ _ c.loop-i.invariant.1 _ c.loop-i-test.true _ c.in_ok-step.ensures.1.1)
 
 pub returns : goal.returns
 returns c =
-    let e : c.loop-i.-i ≡ c.args.total = omega arith in
+    let e : c.loop-i._i ≡ c.args.total = omega arith in
     (_, (c.loop-i.invariant.1.many ∙ e, underway_all _ _ _ _ _ _ c.loop-i.invariant.1 c.loop-i-test.false))

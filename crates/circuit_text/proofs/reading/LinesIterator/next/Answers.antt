@@ -5,13 +5,13 @@ use Rattle.text_reader.specs.declared.place.Place.{Place}
 use Rattle.circuit_text.specs.Texts.{passes}
 use Rattle.circuit_text.proofs.Ahead.{Passed, passed, few_qubits, Coming, coming, none_ahead, before_line, line_lent, others_come, others_ahead}
 use Rattle.circuit_text.proofs.reading.LinesIterator.next.Goals as goal
-use Rattle.circuit_text.proofs.reading.LinesIterator.next.Goals.{In-default}
+use Rattle.circuit_text.proofs.reading.LinesIterator.next.Goals.{In_default}
 
-passed_here : (c : In-default) → Passed (text_of c.args.self.now.reader) c.args.self.now.form
+passed_here : (c : In_default) → Passed (text_of c.args.self.now.reader) c.args.self.now.form
 passed_here c = passed _ _ c.args.self.now.passed
 
-comes : (c : In-default) → Coming c.args.self.now.reader c.args.self.now.form (passed_here c) c.args.self.now.ahead
-comes c = coming _ _ _ _ c.in-default.ensures.1
+comes : (c : In_default) → Coming c.args.self.now.reader c.args.self.now.form (passed_here c) c.args.self.now.ahead
+comes c = coming _ _ _ _ c.in_default.ensures.1
 
 pub returns-in-Ok : goal.returns-in-Ok
 returns-in-Ok c = record {
@@ -21,18 +21,21 @@ returns-in-Ok c = record {
 
 pub content-content-requires : goal.content-content-requires
 content-content-requires c =
-    let r = (goal.at.content-content-requires c).In-default in
+    let r = (goal.at.content-content-requires c).In_default in
     record { few = few_qubits _ _ (passed_here r); before = before_line _ _ _ _ (comes r) }
 
-pub invariant-of-self : goal.invariant-of-self
-invariant-of-self c =
-    let n = comes (goal.at.invariant-of-self c).In-default in
+pub invariant_of-self : goal.invariant_of-self
+invariant_of-self c =
+    let n = comes (goal.at.invariant_of-self c).In_default in
     let d = c.content-content.ensures (before_line _ _ _ _ n) in
-    (ap (λ t. passes t c.args.self.now.form) d.same ∙ c.args.self.now.passed, (others_ahead _ _ _ _ n c.content-content.new.reader d.same d.left, tt))
+    record {
+      passed = ap (λ t. passes t c.args.self.now.form) d.same ∙ c.args.self.now.passed;
+      ahead = others_ahead _ _ _ _ n c.content-content.new.reader d.same d.left;
+    }
 
 pub returns : goal.returns
 returns c =
-    let n = comes (goal.at.returns c).In-default in
+    let n = comes (goal.at.returns c).In_default in
     let b = before_line _ _ _ _ n in
     let d = c.content-content.ensures b in
     let next = n.next ∙ ap (λ l. n.line ∷ l) (sym (others_come _ _ _ _ n c.content-content.new.reader d.same d.left)) in
@@ -42,7 +45,7 @@ returns c =
         line = n.line;
         next = next;
         means = d.means;
-        bytes = line_lent _ n.line b.more n.fits ∙ ap (λ t. first_line t ++ (10 ∷ [])) (sym b.text) ∙ ap (λ l. l ++ (10 ∷ [])) (sym c.line_bytes.ensures);
+        bytes = line_lent _ n.line b.more n.fits ∙ ap (λ t. first_line t ++ (10 ∷ [])) (sym b.text) ∙ ap (λ l. l ++ (10 ∷ [])) (sym c.line-bytes.ensures);
         number = ap (λ (p : Place). p.line) c.place-number.ensures;
       };
       goes = record { on = λ e. (tt, tt, omega (arith, ap length next)); keeps = search rules; rests = λ h. search rules };

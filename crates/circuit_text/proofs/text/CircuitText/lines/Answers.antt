@@ -3,17 +3,15 @@ use Rattle.circuit_text.specs.Texts.{passes}
 use Rattle.circuit_text.proofs.Ahead.{passed, all_come, all_ahead}
 use Rattle.circuit_text.proofs.text.CircuitText.lines.Goals as goal
 
-pub invariant-of-result : goal.invariant-of-result
-invariant-of-result c =
+pub invariant_of-result : goal.invariant_of-result
+invariant_of-result c =
     let form = c.args.self.now.form in
     let same = c.new.ensures.same ∙ c.deref.ensures.value in
-    let whole = c.new.ensures.whole ∙ c.deref.ensures.value in (
-      ap (λ t. passes t form) same ∙ c.args.self.now.passed,
-      (
-        all_ahead _ form c.new.result (passed _ form c.args.self.now.passed) same whole c.new.ensures.start,
-        tt,
-      ),
-    )
+    let whole = c.new.ensures.whole ∙ c.deref.ensures.value in
+    record {
+      passed = ap (λ t. passes t form) same ∙ c.args.self.now.passed;
+      ahead = all_ahead _ form c.new.result (passed _ form c.args.self.now.passed) same whole c.new.ensures.start;
+    }
 
 pub returns : goal.returns
 returns c =

@@ -16,7 +16,7 @@ moved_on c =
     subst (Stands c.args.self.now.text.now (c.args.self.now.pos + 1)) (ap (λ b. moved b c.args.self.now.place) c.if-self-byte.true ∙ sym c.past-self.ensures) s
 
 pub invariant_of-self : goal.invariant_of-self
-invariant_of-self c = let s = moved_on c in (s.sized, (s.within, (s.lines, (s.columns, tt))))
+invariant_of-self c = let s = moved_on c in record { sized = s.sized; within = s.within; lines = s.lines; columns = s.columns }
 
 pub returns-then-self-byte : goal.returns-then-self-byte
 unfolding text_of rest

@@ -28,7 +28,7 @@ pub overflow_add-self-2 : goal.overflow_add-self-2
 overflow_add-self-2 c = let s = stands c.args.self.now in omega (arith, room (goal.at.overflow_add-self-2 c).After-peek-bytes, s.sized)
 
 pub invariant_of-self : goal.invariant_of-self
-invariant_of-self c = let s = after_word (goal.at.invariant_of-self c).After-peek-bytes in (s.sized, (s.within, (s.lines, (s.columns, tt))))
+invariant_of-self c = let s = after_word (goal.at.invariant_of-self c).After-peek-bytes in record { sized = s.sized; within = s.within; lines = s.lines; columns = s.columns }
 
 pub returns : goal.returns
 unfolding text_of rest standing
