@@ -1,6 +1,6 @@
 -- Answers that stay right while a diagram grows.
 use Rattle.std.proofs.Common.{ℕ}
-use Rattle.diagrams.specs.Diagrams.{Diagram, Held, Reduced}
+use Rattle.diagrams.specs.Diagrams.{Diagram, Reduced}
 use Rattle.diagrams.specs.Forming.{Keeps, Formed}
 use Rattle.diagrams.proofs.Canonical.{keeps_self, held_kept}
 use Rattle.diagrams.proofs.Wanted.{SameWanted, same_back, combination_kept, fixing_kept}

@@ -1,10 +1,10 @@
 -- A combination in its simplest form, and one that is answered outright.
-use Rattle.std.proofs.Common.{◌≡◌, ℕ, ◌<◌, ◌≤◌, Bool, true, false, cond, eqb, ◌⊎◌, Decides, sym, refl, ap, ◌∙◌, subst, inl, inr, ⊎_elim, arith}
+use Rattle.std.proofs.Common.{◌≡◌, ℕ, ◌<◌, ◌≤◌, Bool, true, false, cond, ◌⊎◌, Decides, sym, refl, ap, ◌∙◌, inl, inr, ⊎_elim, arith}
 use Rattle.std.proofs.lemmas.Bool.{cases_lt, cases_Bool, false≢true}
 use Rattle.functions.specs.Tables.{ruled}
 use Rattle.node_rules.specs.declared.combination.Combination.{Combination}
 use Rattle.node_rules.specs.Rules.{IgnoresFirst, IgnoresSecond, IgnoresThird}
-use Rattle.node_rules.specs.Combinations.{Values, given, result, Taken, Simplified, Plain, Mixed}
+use Rattle.node_rules.specs.Combinations.{given, Taken, Simplified, Plain, Mixed}
 use Rattle.node_rules.specs.Settling.{SettledFirst, SettledSecond, SettledThird}
 use Rattle.node_rules.proofs.AllRules.{same_rule, rule_0, rule_255, rule_240, rule_204, rule_170}
 

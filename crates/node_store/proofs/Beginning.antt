@@ -1,11 +1,10 @@
 -- Checking words and making a store of them.
-use Rattle.std.proofs.Common.{◌≡◌, ℕ, ◌/◌, ◌<◌, ◌≤◌, min, Bool, true, false, cond, ◌||◌, ltb, ◌⊎◌, List, Ok, Err, Result, sym, refl, ap, ◌∙◌, subst, ap₂, inl, inr, ⊎_elim, arith}
+use Rattle.std.proofs.Common.{◌≡◌, ℕ, ◌<◌, ◌≤◌, true, false, ◌||◌, ltb, ◌⊎◌, List, Ok, Err, Result, sym, ◌∙◌, subst, ap₂, inl, inr, arith}
 use Rattle.std.proofs.lemmas.Bool.{cases_lt, lt-ltb, le-ltb, or_from, or_left, or_right, cond-true, cond-false}
 use Rattle.functions.specs.declared.faults.StoreFault.{StoreFault}
 use Rattle.functions.specs.declared.faults.StoreFault.TheVariants.{NoSuchStore}
-use Rattle.functions.specs.Meanings.{Setting, constants_only}
+use Rattle.functions.specs.Meanings.{constants_only}
 use Rattle.diagrams.specs.Diagrams.{Diagram, no_nodes}
-use Rattle.diagrams.specs.Forming.{Alike}
 use Rattle.diagrams.specs.Meanings.{diagram_setting, diagram_meaning}
 use Rattle.diagrams.proofs.Meanings.{none_reduced, none_means, alike_meaning}
 use Rattle.node_store.specs.New.{store_check, room, checked_setting, new_setting, Untouched}

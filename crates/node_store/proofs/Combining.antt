@@ -1,7 +1,7 @@
 -- Combining by halves.
-use Rattle.std.proofs.Common.{◌≡◌, ℕ, ◌-◌, ◌<◌, ◌≤◌, max, true, false, Some, None, sym, refl, ap, ◌∙◌, subst, arith}
-use Rattle.diagrams.specs.Diagrams.{Diagram, Held, Reduced}
-use Rattle.diagrams.specs.Forming.{Keeps, Joined, NoRoom, combination}
+use Rattle.std.proofs.Common.{◌≡◌, ℕ, ◌<◌, ◌≤◌, true, false, Some, None, sym, subst, arith}
+use Rattle.diagrams.specs.Diagrams.{Diagram, Held}
+use Rattle.diagrams.specs.Forming.{Joined, NoRoom, combination}
 use Rattle.diagrams.proofs.Canonical.{held_kept}
 use Rattle.diagrams.proofs.Wanted.{SameWanted, Splits, ThreeHalved, low_three_held, high_three_held, combination_splits, combination_kept, low_falls, high_falls}
 use Rattle.diagrams.proofs.Asked.{combination_within}
@@ -9,7 +9,6 @@ use Rattle.node_rules.specs.declared.combination.Combination.{Combination}
 use Rattle.node_rules.specs.Combinations.{Simplified, Mixed}
 use Rattle.node_table.specs.declared.table.NodeTable.{NodeTable}
 use Rattle.node_table.specs.Ordering.{InOrder, Grown, diagram_of}
-use Rattle.node_table.proofs.Growths.{grown_then}
 use Rattle.node_answers.specs.declared.question.Question.TheVariants.{Combined}
 use Rattle.node_answers.specs.declared.remembered.Remembered.{Remembered}
 use Rattle.node_answers.specs.Answers.{Right, Sound}

@@ -1,5 +1,5 @@
 -- What a call that makes a function answers.
-use Rattle.std.proofs.Common.{◌≡◌, ℕ, ◌+◌, ◌-◌, ◌^◌, ◌<◌, ◌≤◌, [], ◌∷◌, length, Some, None, Ok, Err, Option, Result, sym, refl, ap, ◌∙◌, subst, ap₂, arith}
+use Rattle.std.proofs.Common.{◌≡◌, ℕ, ◌^◌, ◌<◌, ◌≤◌, length, Some, None, Ok, Err, Option, Result, sym, refl, ◌∙◌, subst, ap₂}
 use Rattle.functions.specs.declared.faults.StoreFault.{StoreFault}
 use Rattle.functions.specs.declared.faults.StoreFault.TheVariants.{NoSpace}
 use Rattle.functions.specs.Tables.{Table}
@@ -8,14 +8,12 @@ use Rattle.functions.specs.Answers.{Made, Due}
 use Rattle.diagrams.specs.Diagrams.{Diagram, Reduced}
 use Rattle.diagrams.specs.Forming.{Wanted, Keeps, Short, bit_of}
 use Rattle.diagrams.specs.Meanings.{diagram_meaning, InLimit}
-use Rattle.diagrams.proofs.Wanted.{bit_extends}
 use Rattle.diagrams.proofs.Forming.{formed_literal, short_literal}
 use Rattle.diagrams.proofs.Meanings.{alike_meaning}
 use Rattle.diagrams.proofs.Making.{made_formed, short_exceeds}
 use Rattle.diagrams.proofs.Asked.{made_refused}
 use Rattle.node_table.specs.declared.table.NodeTable.{NodeTable}
 use Rattle.node_table.specs.Ordering.{InOrder, Grown, diagram_of}
-use Rattle.node_table.specs.Layout.{SameSetting}
 use Rattle.node_table.specs.Adding.{JoinAnswer}
 use Rattle.node_table.specs.Freeing.{Restored}
 use Rattle.node_answers.specs.declared.remembered.Remembered.{Remembered}

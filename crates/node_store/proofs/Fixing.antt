@@ -1,8 +1,8 @@
 -- Setting a qubit by halves.
-use Rattle.std.proofs.Common.{◌≡◌, ℕ, suc, ◌-◌, ◌<◌, ◌≤◌, Bool, true, false, cond, eqb, ◌⊎◌, Some, None, sym, refl, ap, ◌∙◌, subst, inl, inr, ⊎_elim, arith}
+use Rattle.std.proofs.Common.{◌≡◌, ℕ, suc, ◌-◌, ◌<◌, ◌≤◌, Bool, true, false, cond, Some, None, sym, refl, subst, ⊎_elim, arith}
 use Rattle.std.proofs.lemmas.Bool.{cases_eq, eq-eqb, ne_eqb, cond_both}
 use Rattle.diagrams.specs.Diagrams.{Diagram, function_over, Held, Reduced}
-use Rattle.diagrams.specs.Forming.{Keeps, Joined, NoRoom, fixing, Formed}
+use Rattle.diagrams.specs.Forming.{Joined, NoRoom, fixing, Formed}
 use Rattle.diagrams.proofs.Canonical.{held_kept}
 use Rattle.diagrams.proofs.Wanted.{SameWanted, Splits, fixing_splits, fixing_kept, fixing_extends, fixing_chosen, fixing_itself}
 use Rattle.diagrams.proofs.Forming.{formed_held}
@@ -14,7 +14,7 @@ use Rattle.node_answers.specs.declared.remembered.Remembered.{Remembered}
 use Rattle.node_answers.specs.Answers.{Right, Sound}
 use Rattle.node_store.specs.declared.store.NodeStore.{NodeStore}
 use Rattle.node_store.specs.Orders.{diagram, half_of, Ordered, Forms}
-use Rattle.node_store.proofs.Steps.{forms_there, low_stops, high_stops, low_there, high_there, node_stops, node_joined}
+use Rattle.node_store.proofs.Steps.{low_stops, high_stops, low_there, high_there, node_stops, node_joined}
 
 same_both : (b : Bool) (x : ℕ) → cond b x x ≡ x
 same_both true x = refl

@@ -1,17 +1,16 @@
 -- What a keep answers.
-use Rattle.std.proofs.Common.{◌≡◌, ℕ, ◌<◌, List, length, get_or, Ok, Err, Result, sym, refl, ap, ◌∙◌, subst}
+use Rattle.std.proofs.Common.{ℕ, List, get_or, Ok, Err}
 use Rattle.functions.specs.declared.faults.StoreFault.{StoreFault}
 use Rattle.functions.specs.Answers.{Kept}
-use Rattle.diagrams.specs.Diagrams.{Diagram, Held}
-use Rattle.diagrams.specs.Reaching.{Swept, itself}
+use Rattle.diagrams.specs.Reaching.{itself}
 use Rattle.diagrams.specs.Meanings.{diagram_meaning}
 use Rattle.diagrams.proofs.Canonical.{held_kept, alike_keeps}
 use Rattle.diagrams.proofs.Meanings.{alike_meaning}
 use Rattle.diagrams.proofs.Keeping.{kept_swept, kept_refused}
 use Rattle.node_table.specs.declared.table.NodeTable.{NodeTable}
-use Rattle.node_table.specs.Ordering.{InOrder, diagram_of}
+use Rattle.node_table.specs.Ordering.{diagram_of}
 use Rattle.node_table.specs.Layout.{SameSetting}
-use Rattle.node_table.specs.Marking.{NotKept, KeptNodes}
+use Rattle.node_table.specs.Marking.{KeptNodes}
 use Rattle.node_answers.specs.Answers.{Sound}
 use Rattle.node_answers.proofs.Answers.{sound_kept}
 use Rattle.node_store.specs.declared.store.NodeStore.{NodeStore}

@@ -1,9 +1,9 @@
 -- A combination that is simplified, or that has an answer outright.
-use Rattle.std.proofs.Common.{◌≡◌, ℕ, ◌<◌, ◌≤◌, max, Bool, true, false, ◌⊎◌, length, sym, refl, ap, ◌∙◌, subst, inl, inr, ⊎_elim, arith}
+use Rattle.std.proofs.Common.{◌≡◌, ℕ, ◌<◌, ◌≤◌, Bool, true, false, ◌⊎◌, length, sym, ap, ◌∙◌, subst, inl, inr, ⊎_elim, arith}
 use Rattle.std.proofs.lemmas.Bool.{cases_lt}
 use Rattle.exact.specs.Indices.{Index}
 use Rattle.exact.proofs.Listings.{listing_same}
-use Rattle.functions.specs.Tables.{Table, value_at, ruled, combined}
+use Rattle.functions.specs.Tables.{Table, value_at, combined}
 use Rattle.functions.proofs.Values.{same_values, constant_at, combined_at, length_combined}
 use Rattle.diagrams.specs.Diagrams.{Diagram, function_over, Held, Reduced}
 use Rattle.diagrams.specs.Forming.{Wanted, combination, Formed, Short, Lacks, OnlyParts}

@@ -1,8 +1,7 @@
 -- Forming a function half by half: each way out of the recursion.
-use Rattle.std.proofs.Common.{◌≡◌, ℕ, ◌<◌, ◌≤◌, Some, None, sym, refl, ap, ◌∙◌, subst, arith}
+use Rattle.std.proofs.Common.{◌≡◌, ℕ, ◌<◌, Some, None, sym, subst}
 use Rattle.diagrams.specs.Diagrams.{Diagram, Held, Reduced}
-use Rattle.diagrams.specs.Forming.{Wanted, Keeps, Joined, NoRoom, Formed, Short}
-use Rattle.diagrams.proofs.Canonical.{keeps_then}
+use Rattle.diagrams.specs.Forming.{Wanted, Joined, NoRoom, Formed, Short}
 use Rattle.diagrams.proofs.Wanted.{SameWanted, Splits}
 use Rattle.diagrams.proofs.Forming.{formed_same, short_same, short_low, short_high, short_node, low_ready, high_ready, formed_node}
 use Rattle.node_table.specs.declared.table.NodeTable.{NodeTable}

@@ -5,7 +5,7 @@ use Rattle.diagrams.specs.Diagrams.{Diagram, Held, Reduced}
 use Rattle.diagrams.specs.Forming.{Keeps, IsNode, NoRoom, Joined}
 use Rattle.diagrams.proofs.Canonical.{node_handle}
 use Rattle.node_table.specs.declared.table.NodeTable.{NodeTable}
-use Rattle.node_table.specs.Layout.{diagram_of, word, Node, link, head, mark, SameSetting}
+use Rattle.node_table.specs.Layout.{diagram_of, word, Node, head, mark, SameSetting}
 use Rattle.node_table.specs.Chains.{chain_of, Chains, Attached, SmallHeads}
 use Rattle.node_table.specs.Ordering.{InOrder, Grown}
 use Rattle.node_table.specs.Adding.{AllNodes, Fits, Written}

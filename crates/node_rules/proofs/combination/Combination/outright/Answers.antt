@@ -17,5 +17,5 @@ returns-in-204 c = plain_second _ c.in-204.is
 pub returns-in-170 : goal.returns-in-170
 returns-in-170 c = plain_third _ c.in-170.is
 
-pub returns-in-default : goal.returns-in-default
-returns-in-default c = mixed c.args.self.rule (omega arith) (λ e. omega arith) (λ e. omega arith) (λ e. omega arith) (λ e. omega arith) (λ e. omega arith)
+pub returns-in_default : goal.returns-in_default
+returns-in_default c = mixed c.args.self.rule (omega arith) (λ e. omega arith) (λ e. omega arith) (λ e. omega arith) (λ e. omega arith) (λ e. omega arith)

@@ -1,8 +1,7 @@
-use Rattle.std.proofs.Common.{sym}
 use Rattle.node_rules.proofs.Simplifying.{simplified}
 use Rattle.node_rules.proofs.combination.Combination.simplified.Goals as goal
 
 pub returns : goal.returns
 returns c =
-    rw (c.unless-ignored.ensures, c.unless-ignored-2.ensures, c.unless-ignored-3.ensures)
-    (simplified c.args.self _ _ _ c.settled-first-rule.ensures c.settled-second-rule.ensures c.settled-third-rule.ensures _ _ _ c.ignores-first.ensures c.ignores-second.ensures c.ignores-third.ensures)
+    rw (c.unless_ignored.ensures, c.unless_ignored-2.ensures, c.unless_ignored-3.ensures)
+    (simplified c.args.self _ _ _ c.settled_first-rule.ensures c.settled_second-rule.ensures c.settled_third-rule.ensures _ _ _ c.ignores_first.ensures c.ignores_second.ensures c.ignores_third.ensures)

@@ -1,4 +1,3 @@
-use Rattle.std.proofs.Common.{sym, subst}
 use Rattle.node_store.specs.Orders.{diagram}
 use Rattle.node_store.proofs.Simpler.{of, simpler_covers, simpler_held, formed_plain}
 use Rattle.node_store.proofs.Steps.{forms_there, forms_some}
@@ -25,56 +24,56 @@ returns-in-Some-recall t c =
     (forms_there s (of (diagram s) simple) c.in-Some-recall.r c.requires.order (c.in-Some-recall.ensures (diagram s) c.requires.order.sound).formed)
 
 pub halves-lows-requires : goal.halves-lows-requires
-halves-lows-requires t c = some_height c.args.self.now c.args.asked c.simplified-simple.result c.highest-height.result (record { order = c.requires.order; held = c.requires.held; simpler = c.simplified-simple.ensures; mixed = c.in-default.ensures; highest = c.highest-height.ensures })
+halves-lows-requires t c = some_height c.args.self.now c.args.asked c.simplified-simple.result c.highest-height.result (record { order = c.requires.order; held = c.requires.held; simpler = c.simplified-simple.ensures; mixed = c.in_default.ensures; highest = c.highest-height.ensures })
 
 pub halves-highs-requires : goal.halves-highs-requires
-halves-highs-requires t c = some_height c.args.self.now c.args.asked c.simplified-simple.result c.highest-height.result (record { order = c.requires.order; held = c.requires.held; simpler = c.simplified-simple.ensures; mixed = c.in-default.ensures; highest = c.highest-height.ensures })
+halves-highs-requires t c = some_height c.args.self.now c.args.asked c.simplified-simple.result c.highest-height.result (record { order = c.requires.order; held = c.requires.held; simpler = c.simplified-simple.ensures; mixed = c.in_default.ensures; highest = c.highest-height.ensures })
 
 -- the low half
-pub combine-at-requires : goal.combine-at-requires
-combine-at-requires t c =
-    let b : Begun c.args.self.now c.args.asked c.simplified-simple.result c.highest-height.result = (record { order = c.requires.order; held = c.requires.held; simpler = c.simplified-simple.ensures; mixed = c.in-default.ensures; highest = c.highest-height.ensures }) in
+pub combine_at-requires : goal.combine_at-requires
+combine_at-requires t c =
+    let b : Begun c.args.self.now c.args.asked c.simplified-simple.result c.highest-height.result = (record { order = c.requires.order; held = c.requires.held; simpler = c.simplified-simple.ensures; mixed = c.in_default.ensures; highest = c.highest-height.ensures }) in
     (lows_fall _ _ _ _ b _ _ c.halves-lows.ensures c.halves-highs.ensures t c.decreases, (c.requires.order, lows_held _ _ _ _ b _ _ c.halves-lows.ensures c.halves-highs.ensures))
 
-pub returns-in-err-low : goal.returns-in-err-low
-returns-in-err-low t c =
-    let b : Begun c.args.self.now c.args.asked c.simplified-simple.result c.highest-height.result = (record { order = c.requires.order; held = c.requires.held; simpler = c.simplified-simple.ensures; mixed = c.in-default.ensures; highest = c.highest-height.ensures }) in
-    rw c.from-residual.ensures (no_lows _ _ _ _ b _ _ c.halves-lows.ensures c.halves-highs.ensures c.combine-at.new.self c.in-err-low.ensures)
+pub returns-in_err-low : goal.returns-in_err-low
+returns-in_err-low t c =
+    let b : Begun c.args.self.now c.args.asked c.simplified-simple.result c.highest-height.result = (record { order = c.requires.order; held = c.requires.held; simpler = c.simplified-simple.ensures; mixed = c.in_default.ensures; highest = c.highest-height.ensures }) in
+    rw c.from_residual.ensures (no_lows _ _ _ _ b _ _ c.halves-lows.ensures c.halves-highs.ensures c.combine_at.new.self c.in_err-low.ensures)
 
 -- the high half
-pub combine-at-requires-2 : goal.combine-at-requires-2
-combine-at-requires-2 t c =
-    let b : Begun c.args.self.now c.args.asked c.simplified-simple.result c.highest-height.result = (record { order = c.requires.order; held = c.requires.held; simpler = c.simplified-simple.ensures; mixed = c.in-default.ensures; highest = c.highest-height.ensures }) in (
-      highs_fall _ _ _ _ b _ _ c.halves-lows.ensures c.halves-highs.ensures c.combine-at.new.self _ c.in-ok-low.ensures t c.decreases,
-      (c.in-ok-low.ensures.order, highs_held_then _ _ _ _ b _ _ c.halves-lows.ensures c.halves-highs.ensures c.combine-at.new.self _ c.in-ok-low.ensures),
+pub combine_at-requires-2 : goal.combine_at-requires-2
+combine_at-requires-2 t c =
+    let b : Begun c.args.self.now c.args.asked c.simplified-simple.result c.highest-height.result = (record { order = c.requires.order; held = c.requires.held; simpler = c.simplified-simple.ensures; mixed = c.in_default.ensures; highest = c.highest-height.ensures }) in (
+      highs_fall _ _ _ _ b _ _ c.halves-lows.ensures c.halves-highs.ensures c.combine_at.new.self _ c.in_ok-low.ensures t c.decreases,
+      (c.in_ok-low.ensures.order, highs_held_then _ _ _ _ b _ _ c.halves-lows.ensures c.halves-highs.ensures c.combine_at.new.self _ c.in_ok-low.ensures),
     )
 
-pub returns-in-err-high : goal.returns-in-err-high
-returns-in-err-high t c =
-    let b : Begun c.args.self.now c.args.asked c.simplified-simple.result c.highest-height.result = (record { order = c.requires.order; held = c.requires.held; simpler = c.simplified-simple.ensures; mixed = c.in-default.ensures; highest = c.highest-height.ensures }) in
-    rw c.from-residual-in-err-high.ensures
-    (no_highs _ _ _ _ b _ _ c.halves-lows.ensures c.halves-highs.ensures c.combine-at.new.self _ c.in-ok-low.ensures c.combine-at-2.new.self c.in-err-high.ensures)
+pub returns-in_err-high : goal.returns-in_err-high
+returns-in_err-high t c =
+    let b : Begun c.args.self.now c.args.asked c.simplified-simple.result c.highest-height.result = (record { order = c.requires.order; held = c.requires.held; simpler = c.simplified-simple.ensures; mixed = c.in_default.ensures; highest = c.highest-height.ensures }) in
+    rw c.from_residual-in_err-high.ensures
+    (no_highs _ _ _ _ b _ _ c.halves-lows.ensures c.halves-highs.ensures c.combine_at.new.self _ c.in_ok-low.ensures c.combine_at-2.new.self c.in_err-high.ensures)
 
 -- the node
 pub join-requires : goal.join-requires
 join-requires t c =
-    let b : Begun c.args.self.now c.args.asked c.simplified-simple.result c.highest-height.result = (record { order = c.requires.order; held = c.requires.held; simpler = c.simplified-simple.ensures; mixed = c.in-default.ensures; highest = c.highest-height.ensures }) in
+    let b : Begun c.args.self.now c.args.asked c.simplified-simple.result c.highest-height.result = (record { order = c.requires.order; held = c.requires.held; simpler = c.simplified-simple.ensures; mixed = c.in_default.ensures; highest = c.highest-height.ensures }) in
     record {
-      order = c.in-ok-high.ensures.order.nodes;
-      level = (some_height _ _ _ _ b, height_joins _ _ _ _ b _ _ c.halves-lows.ensures c.halves-highs.ensures c.combine-at.new.self _ c.in-ok-low.ensures c.combine-at-2.new.self _ c.in-ok-high.ensures);
-      lows = low_joins _ _ _ _ b _ _ c.halves-lows.ensures c.halves-highs.ensures c.combine-at.new.self _ c.in-ok-low.ensures c.combine-at-2.new.self _ c.in-ok-high.ensures;
-      highs = high_joins _ _ _ _ b _ _ c.halves-lows.ensures c.halves-highs.ensures c.combine-at.new.self _ c.in-ok-low.ensures c.combine-at-2.new.self _ c.in-ok-high.ensures;
+      order = c.in_ok-high.ensures.order.nodes;
+      level = (some_height _ _ _ _ b, height_joins _ _ _ _ b _ _ c.halves-lows.ensures c.halves-highs.ensures c.combine_at.new.self _ c.in_ok-low.ensures c.combine_at-2.new.self _ c.in_ok-high.ensures);
+      lows = low_joins _ _ _ _ b _ _ c.halves-lows.ensures c.halves-highs.ensures c.combine_at.new.self _ c.in_ok-low.ensures c.combine_at-2.new.self _ c.in_ok-high.ensures;
+      highs = high_joins _ _ _ _ b _ _ c.halves-lows.ensures c.halves-highs.ensures c.combine_at.new.self _ c.in_ok-low.ensures c.combine_at-2.new.self _ c.in_ok-high.ensures;
     }
 
-pub returns-in-err-r : goal.returns-in-err-r
-returns-in-err-r t c =
-    let b : Begun c.args.self.now c.args.asked c.simplified-simple.result c.highest-height.result = (record { order = c.requires.order; held = c.requires.held; simpler = c.simplified-simple.ensures; mixed = c.in-default.ensures; highest = c.highest-height.ensures }) in
-    let j = c.in-err-r.ensures in
-    rw c.from-residual-in-err-r.ensures
-    (no_node _ _ _ _ b _ _ c.halves-lows.ensures c.halves-highs.ensures c.combine-at.new.self _ c.in-ok-low.ensures c.combine-at-2.new.self _ c.in-ok-high.ensures c.join.new.self j.order j.grown j.joined.0 j.joined.1)
+pub returns-in_err-r : goal.returns-in_err-r
+returns-in_err-r t c =
+    let b : Begun c.args.self.now c.args.asked c.simplified-simple.result c.highest-height.result = (record { order = c.requires.order; held = c.requires.held; simpler = c.simplified-simple.ensures; mixed = c.in_default.ensures; highest = c.highest-height.ensures }) in
+    let j = c.in_err-r.ensures in
+    rw c.from_residual-in_err-r.ensures
+    (no_node _ _ _ _ b _ _ c.halves-lows.ensures c.halves-highs.ensures c.combine_at.new.self _ c.in_ok-low.ensures c.combine_at-2.new.self _ c.in_ok-high.ensures c.join.new.self j.order j.grown j.joined.0 j.joined.1)
 
 pub returns : goal.returns
 returns t c =
-    let b : Begun c.args.self.now c.args.asked c.simplified-simple.result c.highest-height.result = (record { order = c.requires.order; held = c.requires.held; simpler = c.simplified-simple.ensures; mixed = c.in-default.ensures; highest = c.highest-height.ensures }) in
-    let j = c.in-ok-r.ensures in
-    a_node _ _ _ _ b _ _ c.halves-lows.ensures c.halves-highs.ensures c.combine-at.new.self _ c.in-ok-low.ensures c.combine-at-2.new.self _ c.in-ok-high.ensures c.join.new.self j.order j.grown c.in-ok-r.r j.joined c.remember.new.self c.remember.ensures
+    let b : Begun c.args.self.now c.args.asked c.simplified-simple.result c.highest-height.result = (record { order = c.requires.order; held = c.requires.held; simpler = c.simplified-simple.ensures; mixed = c.in_default.ensures; highest = c.highest-height.ensures }) in
+    let j = c.in_ok-r.ensures in
+    a_node _ _ _ _ b _ _ c.halves-lows.ensures c.halves-highs.ensures c.combine_at.new.self _ c.in_ok-low.ensures c.combine_at-2.new.self _ c.in_ok-high.ensures c.join.new.self j.order j.grown c.in_ok-r.r j.joined c.remember.new.self c.remember.ensures

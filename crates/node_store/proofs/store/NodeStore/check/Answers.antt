@@ -1,5 +1,4 @@
-use Rattle.std.proofs.Common.{cond, ◌||◌, ltb, length, sym, refl, ap, ◌∙◌, ⊎_elim, arith}
-use Rattle.node_store.specs.New.{store_check}
+use Rattle.std.proofs.Common.{length, sym, ⊎_elim, arith}
 use Rattle.node_store.proofs.Beginning.{checked_qubits, checked_words, checked_all}
 use Rattle.node_store.proofs.store.NodeStore.check.Goals as goal
 

@@ -1,4 +1,4 @@
-use Rattle.std.proofs.Common.{◌≡◌, ℕ, List, length, Ok, Err, vec_len, sym, ap, ◌∙◌, rules}
+use Rattle.std.proofs.Common.{◌≡◌, Ok, Err, vec_len, sym, rules}
 use Rattle.node_store.specs.New.{store_check}
 use Rattle.node_store.proofs.Beginning.{passed_range, passed_means, failed_means, passed_words, failed_words}
 use Rattle.node_store.proofs.store.NodeStore.new.Goals as goal

@@ -9,7 +9,7 @@ attach-requires c =
     let a = c.write.new.self in
     let w = c.write.ensures.written in
     let limit = c.write.ensures.setting.limit in
-    let written : Written s a c.args.place c.args.height c.args.low c.args.high = record { word_0 = w.word-0; word_1 = w.word-1; word_2 = w.word-2; others = w.others; heads = w.heads } in
+    let written : Written s a c.args.place c.args.height c.args.low c.args.high = record { word_0 = w.word_0; word_1 = w.word_1; word_2 = w.word_2; others = w.others; heads = w.heads } in
     record {
       room = omega (arith, limit, c.requires.room);
       used = written_node s a c.args.place c.args.height c.args.low c.args.high limit c.requires.free written c.requires.room.1 c.requires.fits.positive (omega (arith, c.requires.fits.within, s.few));
@@ -30,7 +30,7 @@ returns c =
       free = c.requires.free;
       fits = c.requires.fits;
       setting_a = record { qubits = w.setting.qubits; limit = w.setting.limit };
-      written = record { word_0 = w.written.word-0; word_1 = w.written.word-1; word_2 = w.written.word-2; others = w.written.others; heads = w.written.heads };
+      written = record { word_0 = w.written.word_0; word_1 = w.written.word_1; word_2 = w.written.word_2; others = w.written.others; heads = w.written.heads };
       setting_u = c.attach.ensures.setting;
       attached = c.attach.ensures.attached;
       used = c.attach.ensures.used ∙ w.used;

@@ -29,7 +29,7 @@ loop-step-preserved c =
       λ l. subst (Node t) (sym e) (c.requires.chains.link_in c.loop-step.h p (subst (λ (y : ℕ). 2 ≤ y) e l)),
       λ x i.
           let w = c.loop-step.invariant.1 x i in
-          let ne : c.loop-step.h ≡ x → ⊥ = λ q. both_ways _ c.if-is-node.false (c.is-node.ensures.1 (subst (λ (y : ℕ). IsNode (diagram_of t) y c.args.height c.args.low c.args.high) (sym q) i)) in
+          let ne : c.loop-step.h ≡ x → ⊥ = λ q. both_ways _ c.if-is_node.false (c.is_node.ensures.1 (subst (λ (y : ℕ). IsNode (diagram_of t) y c.args.height c.args.low c.args.high) (sym q) i)) in
           let v = walk_on (link t) w.0 c.loop-step.h x w.2 ne in
           (v.0, omega (arith, w.1, v.1), subst (λ (y : ℕ). walk (link t) v.0 y ≡ x) (sym e) v.2),
     )

@@ -24,12 +24,12 @@ pub returns-then-place-self : goal.returns-then-place-self
 returns-then-place-self c = record {
   order = c.requires.order;
   grown = grown_self _;
-  joined = (refl, no_room c.args.self.now c.free-place-place.result _ _ _ c.requires.order c.if-low-high.false c.in-default.ensures c.free-place-place.ensures.passed (omega arith));
+  joined = (refl, no_room c.args.self.now c.free_place-place.result _ _ _ c.requires.order c.if-low-high.false c.in_default.ensures c.free_place-place.ensures.passed (omega arith));
 }
 
 pub add-requires : goal.add-requires
 add-requires c =
-    let p = c.free-place-place.ensures in
+    let p = c.free_place-place.ensures in
     record {
       order = c.requires.order;
       room = (p.within.0, omega (arith, p.within));
@@ -43,6 +43,6 @@ add-requires c =
         high_held = c.requires.highs.0;
         high_later = c.requires.highs.1;
         differ = c.if-low-high.false;
-        absent = c.in-default.ensures;
+        absent = c.in_default.ensures;
       };
     }

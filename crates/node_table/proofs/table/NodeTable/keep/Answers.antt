@@ -36,7 +36,7 @@ returns-then-not-holds c =
     let s = c.args.self.now in
     let a = c.unmark.new.self in
     let b = c.loop-h.self in
-    let t = c.mark-all.new.self in
+    let t = c.mark_all.new.self in
     let v = c.loop-h.invariant in
     let x : Refusing s a b t c.args.list.now c.loop-h.h-index = record {
       order = c.requires;
@@ -46,10 +46,10 @@ returns-then-not-holds c =
       setting_b = v.0;
       used_b = v.1;
       marks = v.2;
-      setting_t = c.mark-all.ensures.setting;
-      used_t = c.mark-all.ensures.used;
-      same_t = c.mark-all.ensures.same;
-      all = c.mark-all.ensures.all;
+      setting_t = c.mark_all.ensures.setting;
+      used_t = c.mark_all.ensures.used;
+      same_t = c.mark_all.ensures.same;
+      all = c.mark_all.ensures.all;
       within = omega arith;
       missing = λ p. both_ways _ c.if-not-holds.true (c.holds.ensures.1 p);
     } in
@@ -65,7 +65,7 @@ returns c =
     let s = c.args.self.now in
     let a = c.unmark.new.self in
     let b = c.loop-h.self in
-    let d = c.free-unmarked.new.self in
+    let d = c.free_unmarked.new.self in
     let t = c.rebuild.new.self in
     let v = c.loop-h.invariant in
     let r = c.rebuild.ensures in
@@ -76,11 +76,11 @@ returns c =
       same_a = c.unmark.ensures.same;
       setting_b = v.0;
       marks = subst (MarksListed a b c.args.list.now) all v.2;
-      setting_c = c.free-unmarked.ensures.setting;
-      freed = c.free-unmarked.ensures.freed;
+      setting_c = c.free_unmarked.ensures.setting;
+      freed = c.free_unmarked.ensures.freed;
       setting_t = record { qubits = r.setting.qubits; limit = r.setting.limit };
       used = r.used;
-      same_t = record { word_0 = r.same.word-0; word_1 = r.same.word-1; word_2 = r.same.word-2 };
+      same_t = record { word_0 = r.same.word_0; word_1 = r.same.word_1; word_2 = r.same.word_2 };
       chains = r.chains;
     } in
     record {

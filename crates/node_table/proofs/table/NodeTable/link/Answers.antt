@@ -2,8 +2,8 @@ use Rattle.std.proofs.Common.{ℕ, ◌/◌, sym, ap, ◌∙◌, arith}
 use Rattle.node_table.proofs.Layouts.{node_two, node_place, link_node, read_first}
 use Rattle.node_table.proofs.table.NodeTable.link.Goals as goal
 
-pub overflow-sub-h : goal.overflow-sub-h
-overflow-sub-h c = node_two _ _ c.requires
+pub overflow_sub-h : goal.overflow_sub-h
+overflow_sub-h c = node_two _ _ c.requires
 
 pub index-requires : goal.index-requires
 index-requires c = omega (arith, node_place c.args.self.now c.args.h 0 c.requires (omega arith))

@@ -6,15 +6,15 @@ use Rattle.node_table.proofs.table.NodeTable.rebuild.Goals as goal
 
 pub loop-i-init : goal.loop-i-init
 loop-i-init c =
-    let t = c.drop-heads.new.self in
-    let none : (b : ℕ) → b < t.limit → head t b ≡ 0 = λ b l. c.drop-heads.ensures.none b (omega (arith, c.drop-heads.ensures.setting.limit)) in
+    let t = c.drop_heads.new.self in
+    let none : (b : ℕ) → b < t.limit → head t b ≡ 0 = λ b l. c.drop_heads.ensures.none b (omega (arith, c.drop_heads.ensures.setting.limit)) in
     (record { qubits = refl; limit = refl }, refl, same_nodes_self _, enter_none t none)
 
 pub returns : goal.returns
 returns c =
     let t = c.loop-i.self in
     let v = c.loop-i.invariant in
-    let d = c.drop-heads.ensures in
+    let d = c.drop_heads.ensures in
     let e : c.loop-i.i ≡ t.limit = omega (arith, v.0.limit) in
     record {
       setting = record { qubits = v.0.qubits ∙ d.setting.qubits; limit = v.0.limit ∙ d.setting.limit };

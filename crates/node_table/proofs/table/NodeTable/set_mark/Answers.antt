@@ -3,21 +3,21 @@ use Rattle.node_table.specs.Layout.{word}
 use Rattle.node_table.proofs.Layouts.{node_two, node_within, node_place, read_first}
 use Rattle.node_table.proofs.table.NodeTable.set_mark.Goals as goal
 
-pub overflow-sub-at : goal.overflow-sub-at
-overflow-sub-at c = node_two _ _ c.requires.used
+pub overflow_sub-at : goal.overflow_sub-at
+overflow_sub-at c = node_two _ _ c.requires.used
 
 pub index-w-requires : goal.index-w-requires
 index-w-requires c = omega (arith, node_place c.args.self.now c.args.h 0 c.requires.used (omega arith))
 
-pub overflow-add-self : goal.overflow-add-self
-overflow-add-self c =
+pub overflow_add-w : goal.overflow_add-w
+overflow_add-w c =
     let s = c.args.self.now in
     let e : c.index-w.result.now ≡ word s c.args.h 0 = read_first s c.args.h _ c.index-w.ensures (omega (arith, node_place s c.args.h 0 c.requires.used (omega arith))) in
     let z : c.index-w.result.now / 32 % 2 ≡ 0 = ap (λ (x : ℕ). x / 32 % 2) e ∙ c.requires.unmarked in
-    omega (arith, c.type-inv.w, z)
+    omega (arith, z)
 
-pub index-mut-requires : goal.index-mut-requires
-index-mut-requires c = omega (arith, node_place c.args.self.now c.args.h 0 c.requires.used (omega arith))
+pub index_mut-requires : goal.index_mut-requires
+index_mut-requires c = omega (arith, node_place c.args.self.now c.args.h 0 c.requires.used (omega arith))
 
 pub returns : goal.returns
 returns c =

@@ -6,8 +6,8 @@ use Rattle.node_table.proofs.table.NodeTable.undo.Goals as goal
 pub returns : goal.returns
 returns c =
     let s = c.args.self.now in
-    let a = c.free-unmarked.new.self in
-    let f = c.free-unmarked.ensures in
+    let a = c.free_unmarked.new.self in
+    let f = c.free_unmarked.ensures in
     let r = c.rebuild.ensures in
     record {
       setting = record { qubits = r.setting.qubits ∙ f.setting.qubits; limit = r.setting.limit ∙ f.setting.limit };
@@ -18,7 +18,7 @@ returns c =
             grown = g;
             freed = subst (λ (y : ℕ). Freed s a y s.used) from f.freed;
             setting_a = f.setting;
-            same = record { word_0 = r.same.word-0; word_1 = r.same.word-1; word_2 = r.same.word-2 };
+            same = record { word_0 = r.same.word_0; word_1 = r.same.word_1; word_2 = r.same.word_2 };
             setting_t = record { qubits = r.setting.qubits; limit = r.setting.limit };
             used = r.used ∙ from;
             chains = r.chains;
