@@ -1,5 +1,5 @@
 -- Handles compared in place of functions.
-use Rattle.std.proofs.Common.{◌≡◌, ℕ, true, false, eqb, ◌⊎◌, Some, sym, ◌∙◌, subst, ⊎_elim, eq-eqb}
+use Rattle.std.proofs.Common.{◌≡◌, ℕ, true, false, eqb, Some, sym, ◌∙◌, subst, ⊎_elim, eq-eqb}
 use Rattle.std.proofs.lemmas.Bool.{cases_Bool, both_ways, eqb-true}
 use Rattle.exact.proofs.Indices.{same_self, same_equal}
 use Rattle.functions.specs.Tables.{Table}

@@ -23,10 +23,10 @@ pub fn fix_column<S: FunctionStore>(
     q: Qubit,
     bit: bool,
 ) -> Result<[u32; 24], StoreFault>
-    requires order { ordered store.old }
+    requires order { S.ordered store.old }
     requires few { slices.0 ≤ 24 }
-    ensures order { ordered store.new }
-    ensures fixed { ColumnFixed (meaning store.old) (meaning store.new) slices.0 column.now q bit result }
+    ensures order { S.ordered store.new }
+    ensures fixed { ColumnFixed (S.meaning store.old) (S.meaning store.new) slices.0 column.now q bit result }
 {
     let mut handles = [0u32; 24];
     for i in 0..slices.0 as usize {
@@ -43,10 +43,10 @@ pub fn choose_column<S: FunctionStore>(
     p: &[u32; 24],
     q: &[u32; 24],
 ) -> Result<[u32; 24], StoreFault>
-    requires order { ordered store.old }
+    requires order { S.ordered store.old }
     requires few { slices.0 ≤ 24 }
-    ensures order { ordered store.new }
-    ensures chosen { ColumnChosen (meaning store.old) (meaning store.new) slices.0 f p.now q.now result }
+    ensures order { S.ordered store.new }
+    ensures chosen { ColumnChosen (S.meaning store.old) (S.meaning store.new) slices.0 f p.now q.now result }
 {
     let mut handles = [0u32; 24];
     for i in 0..slices.0 as usize {
@@ -63,10 +63,10 @@ pub fn flip_column<S: FunctionStore>(
     q: Qubit,
     literal: u32,
 ) -> Result<[u32; 24], StoreFault>
-    requires order { ordered store.old }
+    requires order { S.ordered store.old }
     requires few { slices.0 ≤ 24 }
-    ensures order { ordered store.new }
-    ensures flipped { ColumnFlipped (meaning store.old) (meaning store.new) slices.0 column.now q literal result }
+    ensures order { S.ordered store.new }
+    ensures flipped { ColumnFlipped (S.meaning store.old) (S.meaning store.new) slices.0 column.now q literal result }
 {
     let low = fix_column(store, slices, column, q, false)?;
     let high = fix_column(store, slices, column, q, true)?;
@@ -82,9 +82,9 @@ fn add_slice<S: FunctionStore>(
     e: u32,
     carry: u32,
 ) -> Result<SliceSum, StoreFault>
-    requires order { ordered store.old }
-    ensures order { ordered store.new }
-    ensures added { SliceAdded (meaning store.old) (meaning store.new) p q e carry result }
+    requires order { S.ordered store.old }
+    ensures order { S.ordered store.new }
+    ensures added { SliceAdded (S.meaning store.old) (S.meaning store.new) p q e carry result }
 {
     let turned = store.combine(150, q, e, 0)?;
     let sum = store.combine(150, p, turned, carry)?;
@@ -100,10 +100,10 @@ pub fn add_columns<S: FunctionStore>(
     q: &[u32; 24],
     e: u32,
 ) -> Result<[u32; 24], StoreFault>
-    requires order { ordered store.old }
+    requires order { S.ordered store.old }
     requires few { slices.0 ≤ 24 }
-    ensures order { ordered store.new }
-    ensures added { ColumnsAdded (meaning store.old) (meaning store.new) slices.0 p.now q.now e result }
+    ensures order { S.ordered store.new }
+    ensures added { ColumnsAdded (S.meaning store.old) (S.meaning store.new) slices.0 p.now q.now e result }
 {
     let mut sums = [0u32; 24];
     let mut carry = e;

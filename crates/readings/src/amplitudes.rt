@@ -9,9 +9,9 @@ use functions::{FunctionStore, StoreFault};
 
 /// The integer of a column at an index.
 pub fn integer<S: FunctionStore>(store: &S, slices: &[u32], index: u32) -> Result<i32, StoreFault>
-    requires order { ordered store.now }
+    requires order { S.ordered store.now }
     requires fits { ColumnFits slices.now }
-    ensures { IntegerRead (meaning store.now) slices.now index result }
+    ensures { IntegerRead (S.meaning store.now) slices.now index result }
 {
     let mut bits = [0i64; MOST_SLICES];
     for (j, slice) in slices.iter().enumerate() {
@@ -26,9 +26,9 @@ pub fn quadruple<S: FunctionStore>(
     slices: Slices,
     index: u32,
 ) -> Result<Quadruple, StoreFault>
-    requires order { ordered store.now }
+    requires order { S.ordered store.now }
     requires fits { ColumnsFit slices }
-    ensures { QuadrupleRead (meaning store.now) slices.entry index result }
+    ensures { QuadrupleRead (S.meaning store.now) slices.entry index result }
 {
     let a = integer(store, slices.a, index)?;
     let b = integer(store, slices.b, index)?;
@@ -44,9 +44,9 @@ pub fn amplitude<S: FunctionStore>(
     power: RootTwoPower,
     index: u32,
 ) -> Result<Amplitude, StoreFault>
-    requires order { ordered store.now }
+    requires order { S.ordered store.now }
     requires fits { ColumnsFit slices }
-    ensures { AmplitudeRead (meaning store.now) slices.entry power index result }
+    ensures { AmplitudeRead (S.meaning store.now) slices.entry power index result }
 {
     let quadruple = quadruple(store, slices, index)?;
     Ok(Amplitude { quadruple, power })

@@ -1,6 +1,6 @@
 -- The table of recipes and the table of matrices agree: at every setting of a gate's qubits, the recipe's four terms are the
 -- row of the matrix. Both are polynomials in the old amplitudes' components, so that their normal forms decide.
-use Rattle.std.proofs.Common.{◌≡◌, ◌+◌, ◌*◌, Bool, cond, not, List, [], ◌∷◌, length, get_or, ℤ, pos, ◌+ℤ◌, ◌-ℤ◌, sym, refl, ap, ◌∙◌}
+use Rattle.std.proofs.Common.{◌≡◌, ◌*◌, Bool, cond, not, List, [], ◌∷◌, length, get_or, ℤ, pos, ◌+ℤ◌, ◌-ℤ◌, sym, refl, ap, ◌∙◌}
 use Rattle.exact.specs.declared.Quadruple.{Quadruple}
 use Rattle.exact.specs.Indices.{Index, number, listing, total, at_index}
 use Rattle.exact.proofs.Ring.{Expr, num, plus, eval, Poly, end, normal, solve}

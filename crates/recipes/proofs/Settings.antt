@@ -1,5 +1,5 @@
 -- The target and the controls of a gate, in an index and in a setting of its qubits.
-use Rattle.std.proofs.Common.{◌≡◌, ℕ, suc, ◌<◌, Bool, true, false, ◌&&◌, List, [], ◌∷◌, length, set, sym, refl, ap, ◌∙◌, ap₂, arith}
+use Rattle.std.proofs.Common.{◌≡◌, ℕ, suc, ◌<◌, Bool, true, false, ◌&&◌, List, [], ◌∷◌, length, sym, refl, ap, ◌∙◌, ap₂, arith}
 use lib.Seq.{set-get_or}
 use Rattle.exact.specs.Indices.{Index, bit, with_bit, bits_at, with_setting}
 use Rattle.functions.specs.Tables.{value_at, literal}

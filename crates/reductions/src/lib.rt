@@ -22,9 +22,9 @@ fn both_zero(first: u32, second: u32) -> bool
 /// Whether √2 divides every quadruple: makes the odd sums of the lowest slices, of a with c and of b with d, and asks
 /// whether both are the constant 0, which has handle 0.
 pub fn divisible<S: FunctionStore>(store: &mut S, columns: &Columns) -> Result<bool, StoreFault>
-    requires order { ordered store.old }
-    ensures order { ordered store.new }
-    ensures asked { AskedDivisible (meaning store.old) (meaning store.new) columns.now result }
+    requires order { S.ordered store.old }
+    ensures order { S.ordered store.new }
+    ensures asked { AskedDivisible (S.meaning store.old) (S.meaning store.new) columns.now result }
 {
     let with_c = store.combine(150, columns.a[0], columns.c[0], 0)?;
     let with_d = store.combine(150, columns.b[0], columns.d[0], 0)?;
@@ -45,11 +45,11 @@ fn drop_lowest(column: &[u32; 24]) -> [u32; 24]
 /// Divided by √2: each top slice is repeated, the sums and differences are made, and their lowest slices go. Where √2 does
 /// not divide a quadruple, it is rounded down.
 pub fn divide<S: FunctionStore>(store: &mut S, columns: &Columns) -> Result<Columns, StoreFault>
-    requires order { ordered store.old }
+    requires order { S.ordered store.old }
     requires room { columns.now.slices.0 < 24 }
-    ensures order { ordered store.new }
+    ensures order { S.ordered store.new }
     ensures slices { Sliced columns.now.slices result }
-    ensures divided { ColumnsDivided (meaning store.old) (meaning store.new) columns.now result }
+    ensures divided { ColumnsDivided (S.meaning store.old) (S.meaning store.new) columns.now result }
 {
     let x = columns.repeat_tops();
     let a = add_columns(store, x.slices, &x.b, &x.d, 1)?;
@@ -72,11 +72,11 @@ pub fn reduce<S: FunctionStore>(
     columns: Columns,
     power: RootTwoPower,
 ) -> Result<Reduced, StoreFault>
-    requires order { ordered store.old }
+    requires order { S.ordered store.old }
     requires room { columns.slices.0 < 24 }
-    ensures order { ordered store.new }
+    ensures order { S.ordered store.new }
     ensures slices { SlicedToo columns.slices result }
-    ensures reduced { ColumnsReduced (meaning store.old) (meaning store.new) columns power.0 result }
+    ensures reduced { ColumnsReduced (S.meaning store.old) (S.meaning store.new) columns power.0 result }
 {
     let mut columns = columns;
     let mut power = power;

@@ -7,15 +7,15 @@ use Rattle.columns.proofs.add_columns.Goals as goal
 pub loop-i-init : goal.loop-i-init
 loop-i-init g c = (c.requires.order, adding_none _ _ _ _ _ _, refl)
 
-pub returns-in-err-slice : goal.returns-in-err-slice
-returns-in-err-slice g c =
-    let p = err_from_is_err_and c.from-residual.result c.from-residual.ensures.1 in
-    record { order = c.add-slice.ensures.order; added = rw (p.1, p.2) (adding_stopped _ _ _ _ _ _ _ _ _ _ (search rules) (search rules) (omega arith) c.loop-i.invariant.1 _ c.in-err-slice.ensures.added) }
+pub returns-in_err-slice : goal.returns-in_err-slice
+returns-in_err-slice g c =
+    let p = err_from_is_err_and c.from_residual.result c.from_residual.ensures.1 in
+    record { order = c.add_slice.ensures.order; added = rw (p.1, p.2) (adding_stopped _ _ _ _ _ _ _ _ _ _ (search rules) (search rules) (omega arith) c.loop-i.invariant.1 _ c.in_err-slice.ensures.added) }
 
 pub loop-i-preserved : goal.loop-i-preserved
 loop-i-preserved g c = (
-  c.add-slice.ensures.order,
-  adding_more _ _ _ _ _ _ _ _ _ _ (search rules) (search rules) (omega arith) c.loop-i.invariant.1 _ (omega (arith, c.loop-i.invariant.2, c.requires.few)) c.in-ok-slice.ensures.added,
+  c.add_slice.ensures.order,
+  adding_more _ _ _ _ _ _ _ _ _ _ (search rules) (search rules) (omega arith) c.loop-i.invariant.1 _ (omega (arith, c.loop-i.invariant.2, c.requires.few)) c.in_ok-slice.ensures.added,
   length-set c.loop-i.sums _ _ ∙ c.loop-i.invariant.2,
 )
 

@@ -7,15 +7,15 @@ use Rattle.columns.proofs.fix_column.Goals as goal
 pub loop-i-init : goal.loop-i-init
 loop-i-init g c = (c.requires.order, fixing_none _ _ _ _ _ _, refl)
 
-pub returns-in-err-handles : goal.returns-in-err-handles
-returns-in-err-handles g c =
-    let p = err_from_is_err_and c.from-residual.result c.from-residual.ensures.1 in
-    record { order = c.fixed.ensures.order; fixed = rw (p.1, p.2) (fixing_stopped _ _ _ _ _ _ _ _ _ (search rules) (omega arith) c.loop-i.invariant.1 _ c.in-err-handles.ensures.made) }
+pub returns-in_err-handles : goal.returns-in_err-handles
+returns-in_err-handles g c =
+    let p = err_from_is_err_and c.from_residual.result c.from_residual.ensures.1 in
+    record { order = c.fixed.ensures.order; fixed = rw (p.1, p.2) (fixing_stopped _ _ _ _ _ _ _ _ _ (search rules) (omega arith) c.loop-i.invariant.1 _ c.in_err-handles.ensures.made) }
 
 pub loop-i-preserved : goal.loop-i-preserved
 loop-i-preserved g c = (
   c.fixed.ensures.order,
-  fixing_more _ _ _ _ _ _ _ _ _ (search rules) (omega arith) c.loop-i.invariant.1 _ (omega (arith, c.loop-i.invariant.2, c.requires.few)) c.in-ok-handles.ensures.made,
+  fixing_more _ _ _ _ _ _ _ _ _ (search rules) (omega arith) c.loop-i.invariant.1 _ (omega (arith, c.loop-i.invariant.2, c.requires.few)) c.in_ok-handles.ensures.made,
   length-set c.loop-i.handles _ _ ∙ c.loop-i.invariant.2,
 )
 

@@ -4,4 +4,7 @@ use Rattle.records.proofs.same_handles.Goals as goal
 use Rattle.std.proofs.lemmas.Bool.Decides.{Decides-eqb}
 
 pub returns : goal.returns
-returns c = told_same _ _ _ (slice_eq-Decides Decides-eqb _ _ _ c.eq.ensures)
+returns c =
+    let xs = c.args.first.now in
+    let ys = c.args.second.now in
+    told_same xs ys c.eq.result (slice_eq-Decides Decides-eqb xs ys c.eq.result c.eq.ensures)

@@ -10,31 +10,31 @@ loop-power-init g c = (c.requires.order, reducing_none _ _ _, refl)
 pub divisible-requires : goal.divisible-requires
 divisible-requires g c = record { order = c.loop-power.invariant.0 }
 
-pub returns-in-err-divisible : goal.returns-in-err-divisible
-returns-in-err-divisible g c =
-    let p = err_from_is_err_and c.from-residual.result c.from-residual.ensures.1 in
-    record { order = c.divisible.ensures.order; slices = rw p.1 tt; reduced = rw (p.1, p.2) (reducing_stopped_sums _ _ _ _ _ _ _ (omega arith) c.loop-power.invariant.1 _ c.in-err-divisible.ensures.asked) }
+pub returns-in_err-divisible : goal.returns-in_err-divisible
+returns-in_err-divisible g c =
+    let p = err_from_is_err_and c.from_residual.result c.from_residual.ensures.1 in
+    record { order = c.divisible.ensures.order; slices = rw p.1 tt; reduced = rw (p.1, p.2) (reducing_stopped_sums _ _ _ _ _ _ _ (omega arith) c.loop-power.invariant.1 _ c.in_err-divisible.ensures.asked) }
 
 pub returns-then-not-branch : goal.returns-then-not-branch
-returns-then-not-branch g c = record { order = c.divisible.ensures.order; slices = c.loop-power.invariant.2; reduced = reducing_stays _ _ _ _ _ _ _ (omega arith) c.loop-power.invariant.1 _ c.if-not-branch.true c.in-ok-divisible.ensures.asked _ refl refl }
+returns-then-not-branch g c = record { order = c.divisible.ensures.order; slices = c.loop-power.invariant.2; reduced = reducing_stays _ _ _ _ _ _ _ (omega arith) c.loop-power.invariant.1 _ c.if-not-branch.true c.in_ok-divisible.ensures.asked _ refl refl }
 
 pub divide-requires : goal.divide-requires
 divide-requires g c = record { order = c.divisible.ensures.order; room = subst (λ (s : SliceCount). s.0 < 24) (sym c.loop-power.invariant.2) c.requires.room }
 
-pub returns-in-err-columns : goal.returns-in-err-columns
-returns-in-err-columns g c =
-    let p = err_from_is_err_and c.from-residual-in-err-columns.result c.from-residual-in-err-columns.ensures.1 in
+pub returns-in_err-columns : goal.returns-in_err-columns
+returns-in_err-columns g c =
+    let p = err_from_is_err_and c.from_residual-in_err-columns.result c.from_residual-in_err-columns.ensures.1 in
     record {
       order = c.divide.ensures.order;
       slices = rw p.1 tt;
-      reduced = rw (p.1, p.2) (reducing_stopped_division _ _ _ _ _ _ _ _ (omega arith) c.loop-power.invariant.1 _ c.if-not-branch.false c.in-ok-divisible.ensures.asked _ c.in-err-columns.ensures.divided);
+      reduced = rw (p.1, p.2) (reducing_stopped_division _ _ _ _ _ _ _ _ (omega arith) c.loop-power.invariant.1 _ c.if-not-branch.false c.in_ok-divisible.ensures.asked _ c.in_err-columns.ensures.divided);
     }
 
 pub loop-power-preserved : goal.loop-power-preserved
 loop-power-preserved g c = (
   c.divide.ensures.order,
-  reducing_more _ _ _ _ _ _ _ _ (omega arith) c.loop-power.invariant.1 _ c.if-not-branch.false c.in-ok-divisible.ensures.asked _ c.in-ok-columns.ensures.divided,
-  c.in-ok-columns.ensures.slices ∙ c.loop-power.invariant.2,
+  reducing_more _ _ _ _ _ _ _ _ (omega arith) c.loop-power.invariant.1 _ c.if-not-branch.false c.in_ok-divisible.ensures.asked _ c.in_ok-columns.ensures.divided,
+  c.in_ok-columns.ensures.slices ∙ c.loop-power.invariant.2,
 )
 
 pub returns : goal.returns

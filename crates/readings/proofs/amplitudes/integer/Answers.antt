@@ -13,22 +13,22 @@ returns g c =
 pub loop-j-init : goal.loop-j-init
 loop-j-init g c = (reading_none _ _ _ _, refl, none_within 1 22)
 
-pub returns-in-err-bits : goal.returns-in-err-bits
-returns-in-err-bits g c =
-    let p = err_from_is_err_and c.from-residual.result c.from-residual.ensures.1 in
-    rw (p.1, p.2) (reading_refused _ _ _ c.loop-j.bits _ (omega arith) _ c.in-err-bits.ensures)
+pub returns-in_err-bits : goal.returns-in_err-bits
+returns-in_err-bits g c =
+    let p = err_from_is_err_and c.from_residual.result c.from_residual.ensures.1 in
+    rw (p.1, p.2) (reading_refused _ _ _ c.loop-j.bits _ (omega arith) _ c.in_err-bits.ensures)
 
 pub loop-j-preserved : goal.loop-j-preserved
 loop-j-preserved g c = (
-  reading_more _ _ _ _ _ (omega arith) _ _ (omega arith) c.loop-j.invariant.0 c.in-ok-bits.ensures (byte_is c.in-ok-bits.field-0),
+  reading_more _ _ _ _ _ (omega arith) _ _ (omega arith) c.loop-j.invariant.0 c.in_ok-bits.ensures (byte_is c.in_ok-bits.field-0),
   length-set c.loop-j.bits _ _ ∙ c.loop-j.invariant.1,
-  set_within 1 c.loop-j.bits c.loop-j.j _ (omega arith) c.loop-j.invariant.2 (byte_within c.in-ok-bits.field-0),
+  set_within 1 c.loop-j.bits c.loop-j.j _ (omega arith) c.loop-j.invariant.2 (byte_within c.in_ok-bits.field-0),
 )
 
-pub signed-sum-requires : goal.signed-sum-requires
-signed-sum-requires g c =
+pub signed_sum-requires : goal.signed_sum-requires
+signed_sum-requires g c =
     let e : length (take (length c.args.slices.now) c.loop-j.bits) ≡ length c.args.slices.now = taken_length 1 _ c.loop-j.bits c.requires.fits.some c.requires.fits.few c.loop-j.invariant.1 c.loop-j.invariant.2 in
     record { some = omega arith; few = omega arith; small = taken_within 1 _ c.loop-j.bits c.requires.fits.some c.requires.fits.few c.loop-j.invariant.1 c.loop-j.invariant.2 (omega arith) }
 
-pub overflow-cast-result : goal.overflow-cast-result
-overflow-cast-result g c = small_in_32 _ (taken_sum 1 _ c.loop-j.bits c.requires.fits.some c.requires.fits.few c.loop-j.invariant.1 c.loop-j.invariant.2 _ c.signed_sum.ensures)
+pub overflow_cast-result : goal.overflow_cast-result
+overflow_cast-result g c = small_in_32 _ (taken_sum 1 _ c.loop-j.bits c.requires.fits.some c.requires.fits.few c.loop-j.invariant.1 c.loop-j.invariant.2 _ c.signed_sum.ensures)
