@@ -32,9 +32,9 @@ impl GateQubits {
 
 /// The product of the controls' literals. Without controls it is the constant 1.
 fn controls_product<S: FunctionStore>(store: &mut S, qubits: GateQubits) -> Result<u32, StoreFault>
-    requires order { ordered store.old }
-    ensures order { ordered store.new }
-    ensures made { ControlsMade (meaning store.old) (meaning store.new) qubits result }
+    requires order { S.ordered store.old }
+    ensures order { S.ordered store.new }
+    ensures made { ControlsMade (S.meaning store.old) (S.meaning store.new) qubits result }
 {
     match qubits {
         GateQubits::One(_) => Ok(1),
@@ -49,9 +49,9 @@ fn controls_product<S: FunctionStore>(store: &mut S, qubits: GateQubits) -> Resu
 
 /// The target's literal and the product of the controls' literals.
 pub fn literals<S: FunctionStore>(store: &mut S, qubits: GateQubits) -> Result<Literals, StoreFault>
-    requires order { ordered store.old }
-    ensures order { ordered store.new }
-    ensures made { LiteralsMade (meaning store.old) (meaning store.new) qubits result }
+    requires order { S.ordered store.old }
+    ensures order { S.ordered store.new }
+    ensures made { LiteralsMade (S.meaning store.old) (S.meaning store.new) qubits result }
 {
     let target = qubits.target();
     let literal = store.literal(target)?;
@@ -69,9 +69,9 @@ pub fn first_carry<S: FunctionStore>(
     literals: Literals,
     carry: FirstCarry,
 ) -> Result<u32, StoreFault>
-    requires order { ordered store.old }
-    ensures order { ordered store.new }
-    ensures made { FirstCarryMade (meaning store.old) (meaning store.new) literals carry result }
+    requires order { S.ordered store.old }
+    ensures order { S.ordered store.new }
+    ensures made { FirstCarryMade (S.meaning store.old) (S.meaning store.new) literals carry result }
 {
     match carry {
         FirstCarry::Nowhere => Ok(0),
@@ -91,9 +91,9 @@ pub fn operand<S: FunctionStore>(
     literals: Literals,
     operand: Operand,
 ) -> Result<[u32; 24], StoreFault>
-    requires order { ordered store.old }
-    ensures order { ordered store.new }
-    ensures made { OperandMade (meaning store.old) (meaning store.new) columns.now literals operand result }
+    requires order { S.ordered store.old }
+    ensures order { S.ordered store.new }
+    ensures made { OperandMade (S.meaning store.old) (S.meaning store.new) columns.now literals operand result }
 {
     let slices = columns.slices;
     match operand {
@@ -131,9 +131,9 @@ pub fn term<S: FunctionStore>(
     literals: Literals,
     term: Term,
 ) -> Result<[u32; 24], StoreFault>
-    requires order { ordered store.old }
-    ensures order { ordered store.new }
-    ensures made { TermMade (meaning store.old) (meaning store.new) columns.now literals term result }
+    requires order { S.ordered store.old }
+    ensures order { S.ordered store.new }
+    ensures made { TermMade (S.meaning store.old) (S.meaning store.new) columns.now literals term result }
 {
     match term {
         Term::Just(only) => operand(store, columns, literals, only),
@@ -153,10 +153,10 @@ pub fn new_columns<S: FunctionStore>(
     literals: Literals,
     recipe: Recipe,
 ) -> Result<Columns, StoreFault>
-    requires order { ordered store.old }
-    ensures order { ordered store.new }
+    requires order { S.ordered store.old }
+    ensures order { S.ordered store.new }
     ensures slices { Sliced columns.now.slices result }
-    ensures made { NewColumnsMade (meaning store.old) (meaning store.new) columns.now literals recipe result }
+    ensures made { NewColumnsMade (S.meaning store.old) (S.meaning store.new) columns.now literals recipe result }
 {
     let a = term(store, columns, literals, recipe.term(Component::A))?;
     let b = term(store, columns, literals, recipe.term(Component::B))?;
