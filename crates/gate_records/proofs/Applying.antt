@@ -1,5 +1,5 @@
 -- A gate on a record, from what its steps answered.
-use Rattle.std.proofs.Common.{◌≡◌, ℕ, suc, ◌+◌, ◌<◌, ◌≤◌, List, [], ◌∷◌, ◌++◌, Ok, Err, Result, sym, ap, ◌∙◌, subst}
+use Rattle.std.proofs.Common.{◌≡◌, ℕ, suc, ◌<◌, ◌≤◌, List, [], ◌∷◌, ◌++◌, Ok, Err, Result, sym, ap, ◌∙◌, subst}
 use Rattle.exact.specs.Indices.{Below}
 use Rattle.exact.specs.States.{State, normal_form, width}
 use Rattle.exact.proofs.Widths.{at_least_one}

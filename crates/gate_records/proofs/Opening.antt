@@ -4,7 +4,6 @@ use Rattle.std.proofs.lemmas.List.{append-nil}
 use Rattle.exact.specs.declared.RootTwoPower.{RootTwoPower}
 use Rattle.exact.specs.declared.SliceCount.{SliceCount}
 use Rattle.exact.specs.Indices.{Index, bits, bit}
-use Rattle.exact.specs.States.{width}
 use Rattle.exact.proofs.Tables.{length_bits, highest_first}
 use Rattle.functions.specs.declared.faults.StoreFault.{StoreFault}
 use Rattle.functions.specs.Tables.{Table, constant, literal, choice}

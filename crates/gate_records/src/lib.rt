@@ -21,9 +21,9 @@ fn narrow<S: FunctionStore>(
     literal: u32,
     bit: bool,
 ) -> Result<u32, StoreFault>
-    requires order { ordered store.old }
-    ensures order { ordered store.new }
-    ensures narrowed { Narrowed (meaning store.old) (meaning store.new) product literal bit result }
+    requires order { S.ordered store.old }
+    ensures order { S.ordered store.new }
+    ensures narrowed { Narrowed (S.meaning store.old) (S.meaning store.new) product literal bit result }
 {
     if bit {
         store.combine(202, literal, product, 0)
@@ -34,9 +34,9 @@ fn narrow<S: FunctionStore>(
 
 /// The function that is 1 at one index only: from the last qubit to the first, its literal and the product so far.
 fn index_product<S: FunctionStore>(store: &mut S, index: u32) -> Result<u32, StoreFault>
-    requires order { ordered store.old }
-    ensures order { ordered store.new }
-    ensures made { ProductMade (meaning store.old) (meaning store.new) index result }
+    requires order { S.ordered store.old }
+    ensures order { S.ordered store.new }
+    ensures made { ProductMade (S.meaning store.old) (S.meaning store.new) index result }
 {
     let mut product = 1;
     let mut rest = index;
@@ -52,9 +52,9 @@ fn index_product<S: FunctionStore>(store: &mut S, index: u32) -> Result<u32, Sto
 
 /// The record of a register opened at an index: the component d is 1 there, and all else is 0.
 pub fn open_at<S: FunctionStore>(store: &mut S, index: u32) -> Result<Record, StoreFault>
-    requires order { ordered store.old }
-    ensures order { ordered store.new }
-    ensures opened { RegisterOpened (meaning store.old) (meaning store.new) index result }
+    requires order { S.ordered store.old }
+    ensures order { S.ordered store.new }
+    ensures opened { RegisterOpened (S.meaning store.old) (S.meaning store.new) index result }
 {
     let product = index_product(store, index)?;
     let zero = [0u32; 24];
@@ -88,9 +88,9 @@ pub fn apply<S: FunctionStore>(
     qubits: GateQubits,
     old: &Record,
 ) -> Result<Result<Record, Excess>, StoreFault>
-    requires order { ordered store.old }
-    ensures order { ordered store.new }
-    ensures applied { GateApplied (meaning store.old) (meaning store.new) gate qubits old.now result }
+    requires order { S.ordered store.old }
+    ensures order { S.ordered store.new }
+    ensures applied { GateApplied (S.meaning store.old) (S.meaning store.new) gate qubits old.now result }
 {
     let literals = literals(store, qubits)?;
     let repeated = old.columns().repeat_tops();
