@@ -35,7 +35,7 @@ GATE_QUBITS = {
 NUMBER = re.compile(rb"0|[1-9][0-9]{0,4}")
 BIT = re.compile(rb"[01]")
 
-DEFAULT_PROGRAM = Path(__file__).resolve().parent.parent / "target/bin/slicesim"
+DEFAULT_PROGRAM = Path(__file__).resolve().parent.parent / "crates/slicesim/out/slicesim"
 TIME_LIMIT = 10
 
 

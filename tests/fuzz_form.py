@@ -3,7 +3,7 @@
 
     python3 tests/fuzz_form.py [PROGRAM] [--count N] [--seed N]
 
-PROGRAM is target/bin/slicesim if not given. Each run must end in time, without a
+PROGRAM is crates/slicesim/out/slicesim if not given. Each run must end in time, without a
 crash, with standard output, exit status and standard error as form_oracle.py says.
 A text depends only on the seed and its own number, so that a run can be repeated.
 The first wrong run ends the test, and its text is kept in a file under /tmp.

@@ -40,37 +40,34 @@ BY_LINE = {9: f"Store (NoSpace {LIMIT})", 10: "PowerTooHigh (record { 0 = 41 })"
 FUNCTION = """
 /// The plain machine answers as expected.
 pub fn {name}()
-    ensures {{ λ _. ⌜ {module}-agrees ⌝ }}
+    ensures {{ {module}Agrees }}
 {{}}
 """
 
 SPEC_USES = """\
 -- One circuit and the answers expected.
-use mathlib.Core.Path.{_≡_}
-use mathlib.Core.Bool.{true, false}
-use mathlib.Core.List.{List, [], _∷_}
-use lib.IntN.{pos, negsuc}
-use Rattle·exact.specs.Quadruples.{quadruple}
-use Rattle·functions.specs.declared.faults.StoreFault.the-variants.{NoSpace}
-use Rattle·functions.specs.Meanings.{Setting}
-use Rattle·gates.specs.declared.Gate.the-variants.{X, Z, H, S, T, Rx, Ry, Cx, Cz, Ccx}
-use Rattle·calls.specs.declared.Answer.{Answer}
-use Rattle·calls.specs.declared.Answer.the-variants as answered
-use Rattle·calls.specs.declared.Answer.the-variants.{Done, Refused}
-use Rattle·calls.specs.declared.Call.{Call}
-use Rattle·calls.specs.declared.Call.the-variants.{Open, Gate, Copy, Close, Amplitude, Weight, Same}
-use Rattle·calls.specs.declared.faults.SimulatorFault.the-variants.{NoSuchRegister, RegisterEmpty, RegisterOpen, QubitOutOfRange, QubitTwice, PowerTooHigh, Store}
-use Rattle·plain.specs.Runs.{answers-of-run}
-use Rattle·plain_examples.specs.Examples.{node-store, qubit}
+use Rattle.std.specs.Prelude.{◌≡◌, true, false, List, [], ◌∷◌, pos, negsuc}
+use Rattle.exact.specs.Quadruples.{quadruple}
+use Rattle.functions.specs.declared.faults.StoreFault.TheVariants.{NoSpace}
+use Rattle.functions.specs.Meanings.{Setting}
+use Rattle.gates.specs.declared.Gate.TheVariants.{X, Z, H, S, T, Rx, Ry, Cx, Cz, Ccx}
+use Rattle.calls.specs.declared.Answer.{Answer}
+use Rattle.calls.specs.declared.Answer.TheVariants as answered
+use Rattle.calls.specs.declared.Answer.TheVariants.{Done, Refused}
+use Rattle.calls.specs.declared.Call.{Call}
+use Rattle.calls.specs.declared.Call.TheVariants.{Open, Gate, Copy, Close, Amplitude, Weight, Same}
+use Rattle.calls.specs.declared.faults.SimulatorFault.TheVariants.{NoSuchRegister, RegisterEmpty, RegisterOpen, QubitOutOfRange, QubitTwice, PowerTooHigh, Store}
+use Rattle.plain.specs.Runs.{answers_of_run}
+use Rattle.plain_examples.specs.Examples.{node_store, qubit}
 """
 
 ANSWER = """\
-use mathlib.Core.Path.{{refl}}
-use Rattle·plain_examples.proofs.Computing.{{a-run}}
-use Rattle·trial·proofs.{name}.Needs as need
+use Rattle.std.proofs.Common.{{refl}}
+use Rattle.plain_examples.proofs.Computing.{{a_run}}
+use Rattle.trial.proofs.{name}.Goals as goal
 
-pub returns : need.returns
-unfolding a-run
+pub returns : goal.returns
+unfolding a_run
 returns c = refl
 """
 
@@ -216,7 +213,7 @@ class Trial:
         self.place = Path(place)
         for name in CRATES:
             shutil.copytree(REPOSITORY / "crates" / name, self.place / "crates" / name,
-                            ignore=shutil.ignore_patterns("must-fail"))
+                            ignore=shutil.ignore_patterns("must-fail", "out"))
         lines = (REPOSITORY / "crates.txt").read_text().splitlines()
         kept = [line for line in lines if line.split(":")[0] in CRATES]
         (self.place / "crates.txt").write_text("\n".join(kept + [f"trial: {' '.join(CRATES)}", ""]))
@@ -231,9 +228,9 @@ class Trial:
     def write_crate(self, some_runs):
         """Writes a function for each circuit, whose contract the definitions of the circuit state."""
         modules = [module(run) for run in some_runs]
-        uses = "".join(f"ghost use Rattle·trial·specs.{name}.{{{name}-agrees}};\n" for name in modules)
+        uses = "".join(f"ghost use Rattle.trial.specs.{name}.{{{name}Agrees}};\n" for name in modules)
         functions = "".join(FUNCTION.format(name=identifier(run), module=module(run)) for run in some_runs)
-        self.write("src/lib.rt", "//! Circuits.\n" + uses + functions)
+        self.write("src/lib.rt", "//! Circuits.\n#![tactic(auto)]\n\n" + uses + functions)
         self.write("specs/Lib.antt", "".join(f"pub mod {name}\n" for name in modules))
         for run in some_runs:
             self.write(f"proofs/{identifier(run)}/Answers.antt", ANSWER.format(name=identifier(run)))
@@ -242,7 +239,7 @@ class Trial:
         """The names of the circuits whose answers the prover passes, and of those it refuses, and what it says."""
         for run in some_runs:
             self.write(f"specs/{module(run)}.antt", circuit_text(run))
-        done = subprocess.run([os.environ.get("RT", "rt"), "dev", "trial"], cwd=self.place, text=True,
+        done = subprocess.run([os.environ.get("RT", "rt"), "check"], cwd=self.place / "crates/trial", text=True,
                               stdout=subprocess.PIPE, stderr=subprocess.STDOUT, check=False)
         said = dict(re.findall(r"^fn trial::(\w+): (.*)$", done.stdout, re.M))
         passed = {name for name, verdict in said.items() if verdict == "proved"}
@@ -262,7 +259,7 @@ def module(run):
 
 def circuit_text(run):
     """The definitions of a circuit: its calls, the answers expected, and that the plain machine gives them."""
-    setting = f"node-store {run.qubits} {LIMIT}"
+    setting = f"node_store {run.qubits} {LIMIT}"
     if not has_space(run):
         setting = f"record {{ qubits = {run.qubits}; limit = {LIMIT}; parts = λ f. [] }}"
     return "\n".join([
@@ -270,7 +267,7 @@ def circuit_text(run):
         definition("setting", "Setting", setting),
         definition("asked", "List Call", listed([CALLS[line.kind](line.words) for line in run.lines])),
         definition("expected", "List Answer", listed(run.answers)),
-        definition(f"{module(run)}-agrees", "Type 0", "answers-of-run setting asked ≡ expected"),
+        definition(f"{module(run)}Agrees", "Type 0", "answers_of_run setting asked ≡ expected"),
     ])
 
 

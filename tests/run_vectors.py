@@ -1,7 +1,7 @@
 #!/usr/bin/env python3
 """Runs the built program on every text of crates/text_cases/data and checks what it does.
 
-    python3 tests/run_vectors.py [PROGRAM]    PROGRAM is target/bin/slicesim if not given
+    python3 tests/run_vectors.py [PROGRAM]    PROGRAM is crates/slicesim/out/slicesim if not given
 
 Each text is given on standard input and as a file. Standard output, exit status and
 standard error must be as form_oracle.py says. Beyond these texts, it tries inputs

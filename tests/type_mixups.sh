@@ -7,7 +7,7 @@ work=$(mktemp -d)
 trap 'rm -rf "$work"' EXIT
 mkdir -p "$work/crates/trial/src"
 cp -R "$repository/crates/exact" "$work/crates/exact"
-rm -rf "$work/crates/exact/must-fail"
+rm -rf "$work/crates/exact/must-fail" "$work/crates/exact/out"
 printf 'exact:\ntrial: exact\n' > "$work/crates.txt"
 cd "$work"
 failed=0
@@ -21,7 +21,7 @@ offer() {
         done
         echo "$1"
     } > crates/trial/src/lib.rt
-    rt dev trial > trial.log 2>&1
+    (cd crates/trial && rt check) > trial.log 2>&1
 }
 
 passes() {
