@@ -29,5 +29,7 @@ returns c = record {
   cx_after_h = refl;
   bell_outcome_1 = refl;
   bell_outcome_0 = refl;
+  signs_outcome_1 = refl;
+  signs_outcome_0 = refl;
   x_on_00 = refl;
 }
