@@ -22,7 +22,7 @@ on standard output and a sentence on standard error, with exit status 1.";
 const VERSION: &str = "slicesim 0.1.0
 proved with rattle-kit-13f logic dac8208d650f15bf";
 
-/// Ends with status 1, once everything that is to be said has been written, where no text was accepted.
+/// Ends with status 1 where a text was refused or something failed, once everything that is to be said has been written.
 fn main(rt: HostRuntime) -> ExitCode {
     match run(&rt) {
         Ok(true) => ExitCode::SUCCESS,
