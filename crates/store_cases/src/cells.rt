@@ -1,23 +1,29 @@
 //! Calls on any function store, with handles in cells.
+ghost use Rattle.std.specs.Prelude.{◌≡◌, ◌<◌, IfOk, replicate, slice_set};
+
 use anyhow::anyhow;
 use exact::Qubit;
 use functions::{FunctionStore, StoreFault};
 use std::io;
 
+const CELLS: usize = 16;
+
 /// A store, and the handles that calls were answered with.
 #[derive(Drop)]
 pub struct Cells<S> {
     pub store: S,
-    handles: [u32; 16],
+    handles: [u32; CELLS],
 }
 
 impl<S: FunctionStore> Cells<S> {
     /// The constants in cells 0 and 1, and 0 in the others.
     pub fn over(store: S) -> Cells<S>
         requires { S.ordered store }
-        ensures { S.ordered result.store }
+        ensures same { result.store ≡ store }
+        ensures constants { result.handles ≡ slice_set (replicate CELLS 0) 1 1 }
+        ensures order { S.ordered result.store }
     {
-        let mut handles = [0; 16];
+        let mut handles = [0; CELLS];
         handles[1] = 1;
         Cells { store, handles }
     }
@@ -99,14 +105,10 @@ impl<S: FunctionStore> Cells<S> {
 
     // The handle in a cell.
     fn handle(&self, cell: &str) -> anyhow::Result<u32> {
-        let cell = cell.parse::<usize>()?;
-        if cell >= 16 {
-            return Err(anyhow!("a cell is past the last"));
-        }
-        Ok(self.handles[cell])
+        Ok(self.handles[place(cell)?])
     }
 
-    // Puts a handle into a cell, and prints the number of ones and four values of its function.
+    // Puts a handle into a cell, and shows its function.
     fn put(
         &mut self,
         rt: &HostRuntime,
@@ -117,20 +119,17 @@ impl<S: FunctionStore> Cells<S> {
         requires { S.ordered self.old.store }
         ensures { S.ordered self.new.store }
     {
-        let cell = cell.parse::<usize>()?;
-        if cell >= 16 {
-            return Err(anyhow!("a cell is past the last"));
-        }
+        let place = place(cell)?;
         match made {
             Ok(handle) => {
-                self.handles[cell] = handle;
+                self.handles[place] = handle;
                 self.show(rt, handle)
             }
             Err(fault) => Ok(refused(rt, fault, asked)?),
         }
     }
 
-    // The number of ones of a function, and its values at the indices 0, 1, 2 and 255, where they are.
+    // Prints the number of ones of a function, and its values at those of six indices that it has.
     fn show(&self, rt: &HostRuntime, f: u32) -> anyhow::Result<()>
         requires { S.ordered self.now.store }
     {
@@ -146,6 +145,17 @@ impl<S: FunctionStore> Cells<S> {
         println!(rt; "")?;
         Ok(())
     }
+}
+
+// The place of a cell, by its number.
+fn place(cell: &str) -> anyhow::Result<usize>
+    ensures { IfOk result (λ place. place < CELLS) }
+{
+    let place = cell.parse::<usize>()?;
+    if place >= CELLS {
+        return Err(anyhow!("a cell is past the last"));
+    }
+    Ok(place)
 }
 
 // A refusal. A handle is told by its place among those of the call, since its number is the store's own.
