@@ -164,7 +164,7 @@ fixing_below s f m d b l = rw (lt-ltb d m l)
 pub fixing_from : (s : Diagram) (f m d : ℕ) (b : Bool) → m ≤ d → (fixing s f m b).over d ≡ fixed d (function_over s d f) (d - m) b
 fixing_from s f m d b l = rw (le-ltb d m l)
 
-same_both : {A : Type 0} (b : Bool) (x : A) → cond b x x ≡ x
+pub same_both : {A : Type 0} (b : Bool) (x : A) → cond b x x ≡ x
 same_both true x = refl
 same_both false x = refl
 
