@@ -1,4 +1,4 @@
--- What a store over places holds, and its laws.
+-- What a store over places holds, and its laws. These are lemmas and no definitions: the law of an impl can cite only specs/.
 use Rattle.std.specs.Prelude.{◌≡◌, ℕ, zero, suc, ◌+◌, ◌-◌, ◌^◌, ◌<◌, ◌≤◌, Bool, true, false, cond, ◌⊎◌, List, [], ◌∷◌, map, length, Some, None, Option, ◌==◌, ◌≢◌, refl}
 use native.Mathlib.Omega.{arith}
 use Rattle.std.proofs.Math.Path.{sym, ap}
@@ -7,9 +7,10 @@ use Rattle.std.specs.List.{slice_get}
 use Rattle.std.proofs.lemmas.Bool.{eq-eqb, ne_eqb, cases_eq, cases_Bool, or_left, or_right, or_cases, or_from, cond-true, cond-false, false≢true}
 use Rattle.exact.proofs.Indices.{same_self, same_equal}
 use Rattle.functions.specs.Tables.{Table, constant}
-use Rattle.functions.specs.Sets.{same, among, is_constant, without_constants, different, space}
+use Rattle.functions.specs.Sets.{same, among, is_constant, space}
 use Rattle.functions.specs.Meanings.{Laws, entry, under, functions_of, held}
 use Rattle.functions.proofs.Values.{length_constant}
+use Rattle.functions.proofs.Sets.{space_long}
 use Rattle.functions.proofs.Handles.{under_0, under_1}
 use Rattle.functions.proofs.Constants.{constants_apart, part_itself, simplest_lawful}
 use Rattle.table_words.specs.Words.{unpacked}
@@ -137,24 +138,6 @@ at_held n (None ∷ ps) (suc p) ws e = at_held n ps p ws e
 at_held n (Some vs ∷ ps) (suc p) ws e = or_right (same (unpacked n ws) (unpacked n vs)) _ (at_held n ps p ws e)
 
 -- ---- space
-different_length : (l : List Table) → different l ≤ length l
-unfolding different
-different_length [] = omega arith
-different_length (f ∷ l) = go (among f l) (different_length l)
-  where
-    go : (b : Bool) → different l ≤ length l → cond b (different l) (different l + 1) ≤ suc (length l)
-    go true h = omega arith
-    go false h = omega arith
-
-varying_length : (n : ℕ) (l : List Table) → length (without_constants n l) ≤ length l
-unfolding without_constants
-varying_length n [] = omega arith
-varying_length n (f ∷ l) = go (is_constant n f) (varying_length n l)
-  where
-    go : (b : Bool) → length (without_constants n l) ≤ length l → length (cond b (without_constants n l) (f ∷ without_constants n l)) ≤ suc (length l)
-    go true h = omega arith
-    go false h = omega arith
-
 words_fewer : (n : ℕ) (ps : List Content) → length (map (unpacked n) (words_of ps)) ≤ length ps
 unfolding words_of
 words_fewer n [] = omega arith
@@ -196,11 +179,8 @@ module _ (n limit : ℕ) (ps : List Content) (some : 1 ≤ n) (few : n ≤ 8) (p
       a ∙ ap (λ (t : ℕ). t + 2) (o.apart i m vs (subst (λ (us : List ℕ). slice_get ps i ≡ Some (Some us)) e r) s) ∙ sym c
 
   room : space n (held (meaning_over n limit ps)) ≤ limit
-  unfolding space
   room =
-      let l : List Table = held (meaning_over n limit ps) in
-      let a : different (without_constants n (held (meaning_over n limit ps))) ≤ length (without_constants n (held (meaning_over n limit ps))) = different_length _ in
-      let b : length (without_constants n (held (meaning_over n limit ps))) ≤ length (held (meaning_over n limit ps)) = varying_length n _ in
+      let a : space n (held (meaning_over n limit ps)) ≤ length (held (meaning_over n limit ps)) = space_long n _ in
       let c : length (held (meaning_over n limit ps)) ≡ length (map (unpacked n) (words_of ps)) = ap length (held_words n limit ps) in
       let d : length (map (unpacked n) (words_of ps)) ≤ length ps = words_fewer n ps in
       let e : length ps ≡ limit = o.many in
