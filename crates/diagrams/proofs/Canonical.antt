@@ -10,9 +10,6 @@ use Rattle.diagrams.specs.Forming.{Keeps, Alike}
 pub constant_held : (s : Diagram) (h : ℕ) → h < 2 → Held s h
 constant_held s h l = λ two. absurd (let b : ⊥ = omega arith in b)
 
-pub node_held : (s : Diagram) (h : ℕ) → 0 < s.height h → Held s h
-node_held s h p = λ two. p
-
 pub node_handle : (n : ℕ) (s : Diagram) → Reduced n s → (h : ℕ) → 0 < s.height h → 2 ≤ h
 node_handle n s o h p = ⊎_elim (λ (l : h < 2). absurd (go l)) (λ l. l) (cases_lt h 2)
   where

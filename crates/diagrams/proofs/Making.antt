@@ -1,15 +1,14 @@
 -- A function that was formed is made in the sense of a store; one that fell short exceeds the limit.
-use Rattle.std.proofs.Common.{◌≡◌, ℕ, ◌+◌, ◌^◌, ◌<◌, ◌≤◌, Bool, true, false, ◌||◌, ◌⊎◌, [], ◌∷◌, ◌++◌, length, Some, Ok, Err, Result, sym, refl, ap, ◌∙◌, subst, inl, inr, ⊎_elim, arith}
+use Rattle.std.proofs.Common.{◌≡◌, ℕ, ◌+◌, ◌^◌, ◌<◌, ◌≤◌, Bool, true, false, ◌||◌, ◌⊎◌, [], ◌∷◌, ◌++◌, length, Some, Ok, Result, sym, refl, ap, ◌∙◌, subst, inl, inr, ⊎_elim, arith}
 use Rattle.std.proofs.lemmas.Bool.{cases_Bool, or_left, or_right, or_cases}
 use Rattle.std.proofs.lemmas.List.{append-nil}
 use Rattle.exact.proofs.Indices.{same_equal}
 use Rattle.functions.specs.declared.faults.StoreFault.{StoreFault}
-use Rattle.functions.specs.declared.faults.StoreFault.TheVariants.{NoSpace}
 use Rattle.functions.specs.Tables.{Table, constant}
 use Rattle.functions.specs.Sets.{same, among, is_constant, space, parts_of_all}
 use Rattle.functions.specs.Meanings.{functions_of, held, Holds}
 use Rattle.functions.specs.Growth.{Grew, with_parts, Exceeds}
-use Rattle.functions.specs.Answers.{Due, Made}
+use Rattle.functions.specs.Answers.{Made}
 use Rattle.functions.proofs.Sets.{among_append, space_mono, space_more}
 use Rattle.functions.proofs.Constants.{constant_one_of}
 use Rattle.diagrams.specs.Diagrams.{Diagram, function_over, Held, Reduced}
@@ -17,7 +16,7 @@ use Rattle.diagrams.specs.Parts.{prefix_parts}
 use Rattle.diagrams.specs.Forming.{Keeps, Wanted, Restricts, OnlyParts, Formed, Lacks, Short}
 use Rattle.diagrams.specs.Meanings.{nodes_from, diagram_meaning, InLimit}
 use Rattle.diagrams.proofs.Canonical.{constant_held, length_over, over_kept, held_kept}
-use Rattle.diagrams.proofs.Wanted.{Extends, over_zero, over_one}
+use Rattle.diagrams.proofs.Wanted.{over_zero, over_one}
 use Rattle.diagrams.proofs.Prefixes.{FromPrefix, prefix_part}
 use Rattle.diagrams.proofs.Parts.{lifted, over_lifted, over_lowered, restricts_prefix, restricts_from}
 use Rattle.diagrams.proofs.Reaching.{node_varies, part_reach, restricts_falls}
@@ -163,11 +162,3 @@ short_exceeds n limit s t f o i o' k y l z =
     exceeds n limit s t (f.over n)
     (record { reduced = o; inside = i; reduced_after = o'; keeps = k; sized = z; only_parts = y.only_parts n l })
     y.filled (y.lacks n l)
-
--- and is refused, if nothing has changed
-pub made_short : (n limit : ℕ) (s t u : Diagram) (f : Wanted) (asked : Result Table StoreFault) → Reduced n s → InLimit limit s → Reduced n t → Keeps s t → Extends f → Short s t limit f → f.least ≤ n → asked ≡ Ok (f.over n) → diagram_meaning n limit u ≡ diagram_meaning n limit s → Made (diagram_meaning n limit s) (diagram_meaning n limit u) asked (Err (NoSpace limit))
-unfolding Made Due diagram_meaning
-made_short n limit s t u f asked o i o' k x y l e q = record {
-  unchanged = q;
-  due = subst (λ (a : Result Table StoreFault). Due (diagram_meaning n limit s) a (NoSpace limit)) (sym e) (refl, short_exceeds n limit s t f o i o' k y l (x.sized n l));
-}

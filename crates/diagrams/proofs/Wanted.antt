@@ -30,24 +30,8 @@ pub record Splits (f f0 f1 : Wanted) (m : ℕ) : Type 0 where
   pub low_sized : length (f0.over below) ≡ 2 ^ below
   pub joined : f.over m ≡ f0.over below ++ f1.over below
 
-pub same_itself : (f : Wanted) → SameWanted f f
-same_itself f = record { least = refl; over = λ d l. refl }
-
 pub same_back : (f g : Wanted) → SameWanted f g → SameWanted g f
 same_back f g e = record { least = sym e.least; over = λ d l. sym (e.over d (subst (λ (x : ℕ). x ≤ d) e.least l)) }
-
--- the halves may be exchanged for the same functions
-pub splits_same : (f f0 f1 g0 g1 : Wanted) (m : ℕ) → SameWanted g0 f0 → SameWanted g1 f1 → Splits f f0 f1 m → Splits f g0 g1 m
-splits_same f f0 f1 g0 g1 m a b w = record {
-  extends = w.extends;
-  least = w.least;
-  below = w.below;
-  is = w.is;
-  low_least = rw a.least w.low_least;
-  high_least = rw b.least w.high_least;
-  low_sized = ap length (a.over w.below w.low_least) ∙ w.low_sized;
-  joined = w.joined ∙ sym (ap₂ (λ (s t : Table). s ++ t) (a.over w.below w.low_least) (b.over w.below w.high_least));
-}
 
 -- the halves are over fewer qubits
 pub low_falls : (f f0 f1 : Wanted) (m : ℕ) → Splits f f0 f1 m → f0.least < m
@@ -65,12 +49,6 @@ constantly_extends b = record { sized = λ d l. length_constant d b; doubled = �
 
 abbrev pub function_of : Diagram → ℕ → Wanted
 function_of s h = record { least = s.height h; over = λ d. function_over s d h }
-
-pub function_extends : (s : Diagram) (h : ℕ) → Extends (function_of s h)
-function_extends s h = record { sized = λ d l. length_over s d h; doubled = λ d l. over_above s d h l }
-
-pub function_kept : (n : ℕ) (s t : Diagram) → Reduced n s → Keeps s t → (h : ℕ) → Held s h → SameWanted (function_of t h) (function_of s h)
-function_kept n s t o k h hh = record { least = k.height h hh; over = λ d l. over_kept n s t o k d h hh }
 
 -- handles 0 and 1 are the constants
 pub over_zero : (n : ℕ) (s : Diagram) → Reduced n s → (d : ℕ) → function_over s d 0 ≡ constant d false

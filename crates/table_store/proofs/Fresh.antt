@@ -46,9 +46,6 @@ pub record Cleared (ws vs : List ℕ) (i : ℕ) : Type 0 where
   pub long : length vs ≡ length ws
   pub marks : (p : ℕ) → p < i → get_or vs p 0 ≡ 0
 
-pub cleared_none : (ws : List ℕ) → Cleared ws ws 0
-cleared_none ws = record { long = refl; marks = λ p l. absurd (let b : ⊥ = omega arith in b) }
-
 pub cleared_more : (ws vs : List ℕ) (i : ℕ) → i < length vs → Cleared ws vs i → Cleared ws (set vs i 0) (i + 1)
 cleared_more ws vs i l x = record {
   long = length-set vs i 0 ∙ x.long;

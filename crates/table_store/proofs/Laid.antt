@@ -1,5 +1,5 @@
 -- How functions lie among the words.
-use Rattle.std.proofs.Common.{◌≡◌, ℕ, zero, suc, ◌+◌, ◌-◌, ◌*◌, ◌^◌, ◌<◌, ◌≤◌, min, cond, eqb, ltb, List, [], ◌∷◌, length, get_or, set, Some, None, sym, refl, ap, ◌∙◌, subst, ap₂, ⊎_elim, mul_comm, add-mul, mul-le-mul_left, one-mul, mul-suc, arith, pow_pos, pow_mono}
+use Rattle.std.proofs.Common.{◌≡◌, ℕ, zero, suc, ◌+◌, ◌-◌, ◌*◌, ◌^◌, ◌<◌, ◌≤◌, min, cond, eqb, ltb, List, [], ◌∷◌, length, get_or, set, Some, None, sym, refl, ap, ◌∙◌, subst, ap₂, ⊎_elim, mul_comm, add-mul, mul-le-mul_left, one-mul, mul-suc, arith, pow_mono}
 use lib.Bits.{bit_and, bit_or, or_add_and}
 use Rattle.std.specs.List.{slice_get}
 use Rattle.std.proofs.lemmas.Nat.{and_le_l}
@@ -15,10 +15,6 @@ use Rattle.table_store.specs.Stores.{LaidOut, Written}
 use Rattle.table_store.specs.Holding.{none_is_some}
 
 -- ---- widths and places
-pub width_some : (n : ℕ) → 1 ≤ width n
-unfolding width
-width_some n = let p : 0 < 2 ^ n = pow_pos n in omega arith
-
 pub width_few : (n : ℕ) → n ≤ 8 → width n ≤ 4
 unfolding width
 width_few n few = let p : 2 ^ n ≤ 2 ^ 8 = pow_mono few in omega arith

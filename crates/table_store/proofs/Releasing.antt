@@ -198,22 +198,6 @@ pub record Freeing (flags : List Bool) (ws vs : List ℕ) (i : ℕ) : Type 0 whe
   pub past : (p : ℕ) → p < i → get_or vs p 0 ≡ cond (get_or flags p false) (get_or ws p 0) 0
   pub rest : (p : ℕ) → i ≤ p → get_or vs p 0 ≡ get_or ws p 0
 
-pub freeing_none : (flags : List Bool) (ws : List ℕ) → Freeing flags ws ws 0
-freeing_none flags ws = record { long = refl; past = λ p l. absurd (let b : ⊥ = omega arith in b); rest = λ p l. refl }
-
-pub freeing_more : (flags : List Bool) (ws vs : List ℕ) (i w : ℕ) (b : Bool) → i < length vs → w ≡ get_or vs i 0 → b ≡ get_or flags i false → Freeing flags ws vs i → Freeing flags ws (set vs i (cond b w 0)) (i + 1)
-freeing_more flags ws vs i w b l e f x = record {
-  long = length-set vs i _ ∙ x.long;
-  past = λ p h. ⊎_elim
-      (λ (z : p ≡ i). ap (λ (j : ℕ). get_or (set vs i (cond b w 0)) j 0) z ∙ get_or-set_same vs i (cond b w 0) 0 l ∙ ap₂ (λ (c : Bool) (v : ℕ). cond c v 0) f (e ∙ x.rest i (omega arith)) ∙ ap (λ (j : ℕ). cond (get_or flags j false) (get_or ws j 0) 0) (sym z))
-      (λ (z : p ≡ i → ⊥). get_or-set_other vs i p _ 0 z ∙ x.past p (omega arith))
-      (cases_eq p i);
-  rest = λ p h. get_or-set_other vs i p _ 0 (λ (z : p ≡ i). (let c : ⊥ = omega arith in c)) ∙ x.rest p (omega arith);
-}
-
-pub freeing_all : (limit : ℕ) (flags : List Bool) (ws vs : List ℕ) (i : ℕ) → limit ≡ i → Freeing flags ws vs i → KeptMarks limit flags ws vs
-freeing_all limit flags ws vs i e x = record { long = x.long; marks = λ p l. x.past p (omega arith); others = λ p l. x.rest p (omega arith) }
-
 -- ---- words after a keep
 module _ (n limit : ℕ) (flags : List Bool) (ws vs list : List ℕ) (o : LaidOut n limit ws) (k : KeptMarks limit flags ws vs) (listed : (p : ℕ) → p < 4096 → get_or flags p false ≡ inside (p + 2) list) where
   same_words : (p : ℕ) → words_at n limit vs p ≡ words_at n limit ws p

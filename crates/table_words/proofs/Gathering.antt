@@ -1,9 +1,9 @@
 -- A word made of a pattern's values, from the highest bit down.
-use Rattle.std.proofs.Common.{◌≡◌, ℕ, zero, suc, ◌+◌, ◌-◌, ◌*◌, ◌/◌, ◌%◌, ◌^◌, ◌<◌, ◌≤◌, Bool, true, false, eqb, sym, refl, ap, ◌∙◌, subst, arith, pow_mono}
+use Rattle.std.proofs.Common.{◌≡◌, ℕ, zero, suc, ◌+◌, ◌-◌, ◌*◌, ◌/◌, ◌%◌, ◌^◌, ◌<◌, ◌≤◌, Bool, true, false, eqb, sym, refl, ap, ◌∙◌, subst, arith}
 use native.Mathlib.Nat.{two-pow-succ}
 use mir.Val.{bool_byte}
 use Rattle.functions.specs.Tables.{digit}
-use Rattle.table_words.specs.Words.{bit_of, BitsOf}
+use Rattle.table_words.specs.Words.{bit_of}
 use Rattle.table_words.proofs.Bits.{half_bits, lowest_bit}
 
 -- the bits from i on are made, as the lowest of w
@@ -11,16 +11,6 @@ pub record Gathering (p : ℕ → Bool) (first w i : ℕ) : Type 0 where
   pub few : i ≤ 64
   pub small : w < 2 ^ (64 - i)
   pub same : (k : ℕ) → i + k < 64 → bit_of w k ≡ p (first + (i + k))
-
-pub gathering_none : (p : ℕ → Bool) (first : ℕ) → Gathering p first 0 64
-gathering_none p first = record { few = omega arith; small = (let z : 0 < 2 ^ 0 = omega arith in z); same = λ k l. absurd (let b : ⊥ = omega arith in b) }
-
-pub gathering_fits : (p : ℕ → Bool) (first w i : ℕ) → 0 < i → Gathering p first w i → w < 2 ^ 63
-gathering_fits p first w i pos g =
-    let k : 64 - i ≤ 63 = omega arith in
-    let m : 2 ^ (64 - i) ≤ 2 ^ 63 = pow_mono k in
-    let s : w < 2 ^ (64 - i) = g.small in
-    omega arith
 
 pub byte_digit : (b : Bool) → bool_byte b ≡ digit b
 byte_digit true = refl
@@ -54,6 +44,3 @@ gathering_more p first w i b pos e g =
         let h : (2 * w + digit b) / 2 ≡ w = omega arith in
         let x : i + k ≡ i - 1 + suc k = omega arith in
         sym (half_bits (2 * w + digit b) k) ∙ ap (λ (v : ℕ). bit_of v k) h ∙ g.same k (omega arith) ∙ ap (λ (m : ℕ). p (first + m)) x
-
-pub gathering_all : (p : ℕ → Bool) (first w i : ℕ) → i ≤ 0 → Gathering p first w i → BitsOf w (λ k. p (first + k))
-gathering_all p first w i z g k l = let x : i + k ≡ k = omega arith in g.same k (omega arith) ∙ ap (λ (m : ℕ). p (first + m)) x
