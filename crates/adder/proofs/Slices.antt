@@ -8,7 +8,7 @@ use Rattle.functions.specs.Meanings.{Meaning, qubits_of, under}
 use Rattle.functions.specs.Growth.{Grew, Built}
 use Rattle.functions.specs.Answers.{Made, combine_asked}
 use Rattle.functions.proofs.Values.{constant_at}
-use Rattle.functions.proofs.Rules.{combined_150, combined_232}
+use Rattle.functions.proofs.NamedRules.{combined_150, combined_232}
 use Rattle.functions.proofs.Handles.{under_0}
 use Rattle.functions.proofs.Growth.{built_after, built_stopped}
 use Rattle.functions.proofs.Asked.{combination, made_keeps}

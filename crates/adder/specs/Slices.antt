@@ -21,11 +21,6 @@ next_carry n p q e c = majority n p (turned n q e) c
 unfoldable pub slice_plan : ℕ → Table → Table → Table → Table → List Table
 slice_plan n p q e c = turned n q e ∷ (slice_sum n p q e c ∷ (next_carry n p q e c ∷ []))
 
--- every handle of a list is held
-abbrev pub AllHeld : Meaning → List ℕ → Type 0
-AllHeld v [] = Unit {0}
-AllHeld v (k ∷ ks) = ((f : Table) × (under v k ≡ Some f)) × AllHeld v ks
-
 -- the handles of a slice's sum and of the next carry
 pub record SumOf (w : Meaning) (s c : Table) (x : SliceSum) : Type 0 where
   pub sum : under w x.sum ≡ Some s

@@ -1,9 +1,9 @@
 //! Addition of slices, over any function store.
 #![tactic(auto)]
 
-ghost use Rattle.std.specs.Prelude.{[], ◌∷◌};
-ghost use Rattle.adder.specs.Slices.{AllHeld, SliceAdded, SliceLaws};
+ghost use Rattle.adder.specs.Slices.{SliceAdded, SliceLaws};
 
+use functions::rules::{MAJORITY, PARITY};
 use functions::{FunctionStore, StoreFault};
 
 /// The handles of one slice of a sum and of the carry into the next slice.
@@ -22,14 +22,13 @@ pub fn add_slice<S: FunctionStore>(
     e: u32,
     carry: u32,
 ) -> Result<SliceSum, StoreFault>
-    requires order { S.ordered store.old }
-    requires held { AllHeld (S.meaning store.old) (p ∷ (q ∷ (e ∷ (carry ∷ [])))) }
+    requires { S.ordered store.old }
     ensures order { S.ordered store.new }
     ensures added { SliceAdded (S.meaning store.old) (S.meaning store.new) p q e carry result }
 {
-    let turned = store.combine(150, q, e, 0)?;
-    let sum = store.combine(150, p, turned, carry)?;
-    let carry = store.combine(232, p, turned, carry)?;
+    let turned = store.combine(PARITY, q, e, 0)?;
+    let sum = store.combine(PARITY, p, turned, carry)?;
+    let carry = store.combine(MAJORITY, p, turned, carry)?;
     Ok(SliceSum { sum, carry })
 }
 

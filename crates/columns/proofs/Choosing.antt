@@ -5,7 +5,7 @@ use Rattle.functions.specs.Tables.{Table, choice}
 use Rattle.functions.specs.Meanings.{Meaning, qubits_of, under}
 use Rattle.functions.specs.Growth.{Built, StandFor}
 use Rattle.functions.specs.Answers.{Made, combine_asked}
-use Rattle.functions.proofs.Rules.{combined_202}
+use Rattle.functions.proofs.NamedRules.{combined_202}
 use Rattle.functions.proofs.Asked.{combination}
 use Rattle.slicing.specs.Columns.{Column}
 use Rattle.slicing.specs.Operations.{chosen_column}

@@ -2,7 +2,7 @@
 ghost use Rattle.std.specs.Prelude.{◌≡◌, ◌≤◌, Some, Decides};
 ghost use Rattle.exact.specs.Quadruples.{division, half_sum};
 ghost use Rattle.exact.specs.States.{SameAmplitude};
-ghost use Rattle.exact.specs.Texts.{amplitude_text};
+ghost use Rattle.exact.specs.Texts.{quadruple_text, amplitude_text};
 
 use crate::{Amplitude, Quadruple};
 use std::fmt;
@@ -33,6 +33,15 @@ fn half_sum(x: i32, y: i32) -> Option<i32>
         Some((sum / 2) as i32)
     } else {
         None
+    }
+}
+
+impl fmt::Display for Quadruple {
+    ghost output = { λ x. Some (quadruple_text x) };
+
+    fn fmt<W: fmt::Write>(&self, f: &mut fmt::Formatter<W>) -> fmt::Result {
+        let Quadruple { a, b, c, d } = *self;
+        write!(f, "{a} {b} {c} {d}")
     }
 }
 
@@ -68,8 +77,7 @@ impl fmt::Display for Amplitude {
     ghost output = { λ x. Some (amplitude_text x) };
 
     fn fmt<W: fmt::Write>(&self, f: &mut fmt::Formatter<W>) -> fmt::Result {
-        let Quadruple { a, b, c, d } = self.quadruple;
         let power = self.power.0;
-        write!(f, "{a} {b} {c} {d} {power}")
+        write!(f, "{} {power}", self.quadruple)
     }
 }

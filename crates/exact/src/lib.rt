@@ -5,7 +5,10 @@
 
 pub mod amplitudes;
 pub mod laws;
+mod qubits;
 pub mod weights;
+
+pub use qubits::QubitCount;
 
 /// How many times an amplitude is divided by √2.
 #[derive(Clone, Copy, PartialEq, Eq)]

@@ -3,7 +3,7 @@ use Rattle.std.proofs.Common.{◌≡◌, ℕ, ◌<◌, Bool, ltb, [], ◌∷◌,
 use Rattle.std.proofs.lemmas.Bool.{cond-true, lt-ltb}
 use Rattle.exact.specs.declared.Qubit.{Qubit}
 use Rattle.functions.specs.declared.faults.StoreFault.{StoreFault}
-use Rattle.functions.specs.declared.faults.StoreFault.TheVariants.{QubitOutOfRange}
+use Rattle.functions.specs.declared.faults.StoreFault.TheVariants.{QubitOutOfRange, NotHeld}
 use Rattle.functions.specs.Tables.{Table, literal, fixed, combined}
 use Rattle.functions.specs.Meanings.{Setting, Meaning, Laws, qubits_of, under}
 use Rattle.functions.specs.Growth.{Grew, Built}
@@ -31,6 +31,23 @@ pub and_then_inverse : {X Y : Type 0} (r : Result X StoreFault) (f : X → Resul
 unfolding and_then
 and_then_inverse (Ok x) f y e = (x, refl, e)
 and_then_inverse (Err d) f y e = absurd (let z : ◌≡◌ {A = ℕ} 0 1 = cc in let b : ⊥ = omega arith in b)
+
+pub and_then_err : {X Y : Type 0} (r : Result X StoreFault) (f : X → Result Y StoreFault) (d : StoreFault) → r ≡ Err d → and_then r f ≡ Err d
+unfolding and_then
+and_then_err {X = X} r f d e = ap (λ (s : Result X StoreFault). and_then s f) e
+
+pub function_none : (m : Meaning) (k : ℕ) → under m k ≡ None → function_under m k ≡ Err (NotHeld k)
+unfolding function_under or_not_held
+function_none m k e = ap (or_not_held k) e
+
+-- a refusal that is due before any space is looked at
+pub made_refused : (v w : Meaning) (asked : Result Table StoreFault) (d e : StoreFault) → asked ≡ Err d → e ≡ d → w ≡ v → Made v w asked (Err e)
+unfolding Made Due
+made_refused v w asked d e p q u = record { unchanged = u; due = subst (λ (o : Result Table StoreFault). Due v o e) (sym p) q }
+
+-- the same function asked for, in other words
+pub made_as : (v w : Meaning) (a b : Result Table StoreFault) (r : Result ℕ StoreFault) → a ≡ b → Made v w a r → Made v w b r
+made_as v w a b r e h = subst (λ (o : Result Table StoreFault). Made v w o r) e h
 
 -- the function that is asked for, where the handles are held and the qubit is in range
 pub literal_known : (m : Meaning) (q : Qubit) → q.0 < qubits_of m → literal_asked m q ≡ Ok (literal (qubits_of m) q.0)

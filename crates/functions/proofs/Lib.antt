@@ -1,6 +1,6 @@
 pub mod Values
 pub mod Halves
-pub mod Rules
+pub mod NamedRules
 pub mod Sets
 pub mod Growth
 pub mod Handles

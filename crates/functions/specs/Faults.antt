@@ -1,5 +1,6 @@
--- The number, value and layer of each fault of a store.
-use Rattle.std.specs.Prelude.{ℕ}
+-- The number, value and layer of each fault of a store, and how it is written.
+use Rattle.std.specs.Prelude.{ℕ, List, [], ◌∷◌, codes, decimal}
+use Rattle.exact.specs.Texts.{words}
 use Rattle.functions.specs.declared.faults.Layer.{Layer}
 use Rattle.functions.specs.declared.faults.Layer.TheVariants.{Store}
 use Rattle.functions.specs.declared.faults.StoreFault.{StoreFault}
@@ -21,3 +22,7 @@ value_of (NoSpace limit) = limit
 
 abbrev pub layer_of : StoreFault → Layer
 layer_of e = Store
+
+-- refused, the number and the value
+abbrev pub refusal_text : StoreFault → List ℕ
+refusal_text e = words (codes "refused" ∷ (decimal (number_of e) ∷ (decimal (value_of e) ∷ [])))

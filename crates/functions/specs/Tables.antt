@@ -45,8 +45,8 @@ ones n f = count_where n (value_at f)
 abbrev pub differ : Bool → Bool → Bool
 differ a b = cond a (not b) b
 
--- the combinations that have names: f chooses g, else h (rule 202); the odd sum of three (150); the carry of three, at
--- least two of them (232); all three (128)
+-- the combinations whose rules have names: f chooses g, else h (rule 202, CHOICE); the odd sum of three (150, PARITY); the carry
+-- of three, at least two of them (232, MAJORITY); all three (128, CONJUNCTION)
 unfoldable pub choice : ℕ → Table → Table → Table → Table
 choice n f g h = listing n (λ x. cond (value_at f x) (value_at g x) (value_at h x))
 

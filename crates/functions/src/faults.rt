@@ -1,8 +1,9 @@
 //! Why a store refuses.
-ghost use Rattle.std.specs.Prelude.{◌≡◌};
-ghost use Rattle.functions.specs.Faults.{number_of, value_of, layer_of};
+ghost use Rattle.std.specs.Prelude.{◌≡◌, Some};
+ghost use Rattle.functions.specs.Faults.{number_of, value_of, layer_of, refusal_text};
 
 use exact::Qubit;
+use std::fmt;
 
 /// The layer that finds a fault.
 #[derive(Clone, Copy, PartialEq, Eq)]
@@ -59,5 +60,15 @@ impl StoreFault {
         ensures { result ≡ layer_of self }
     {
         Layer::Store
+    }
+}
+
+impl fmt::Display for StoreFault {
+    ghost output = { λ e. Some (refusal_text e) };
+
+    fn fmt<W: fmt::Write>(&self, f: &mut fmt::Formatter<W>) -> fmt::Result {
+        let number = self.number();
+        let value = self.value();
+        write!(f, "refused {number} {value}")
     }
 }

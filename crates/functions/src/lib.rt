@@ -7,9 +7,12 @@ ghost use Rattle.functions.specs.Answers.{Made, Kept, literal_asked, fixed_asked
 
 use exact::Qubit;
 
+mod combination;
 mod faults;
 pub mod laws;
+pub mod rules;
 
+pub use combination::Combination;
 pub use faults::{Layer, StoreFault};
 
 /// A store of Boolean functions of n qubits.

@@ -10,7 +10,7 @@ use Rattle.functions.specs.Tables.{Table, constant, literal, choice}
 use Rattle.functions.specs.Meanings.{Setting, Meaning, qubits_of, under}
 use Rattle.functions.specs.Growth.{Grew, Stopped, Built, StandFor}
 use Rattle.functions.specs.Answers.{Made, literal_asked, combine_asked}
-use Rattle.functions.proofs.Rules.{combined_202}
+use Rattle.functions.proofs.NamedRules.{combined_202}
 use Rattle.functions.proofs.Growth.{grew_none, grew_then, stopped_after, stopped_before}
 use Rattle.functions.proofs.Handles.{under_0, under_1}
 use Rattle.functions.proofs.Asked.{combination}

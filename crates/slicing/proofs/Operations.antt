@@ -5,7 +5,7 @@ use Rattle.exact.specs.Indices.{Index, bit, with_bit}
 use Rattle.exact.proofs.Listings.{length_listing, listing_same, at_listing}
 use Rattle.functions.specs.Tables.{Table, value_at, constant, literal, fixed, combined, differ, choice, parity, majority, conjunction}
 use Rattle.functions.proofs.Values.{length_constant, length_fixed, constant_at, literal_at, fixed_at}
-use Rattle.functions.proofs.Rules.{combined_150, combined_128}
+use Rattle.functions.proofs.NamedRules.{combined_150, combined_128}
 use Rattle.adder.specs.Slices.{turned, slice_sum, next_carry}
 use Rattle.slicing.specs.TwosComplement.{signed_sum, signed_number, repeated}
 use Rattle.slicing.specs.Columns.{Column, bits_of, integer_at, AllFunctions}

@@ -1,5 +1,5 @@
 use Rattle.functions.proofs.Values.{same_values}
-use Rattle.functions.proofs.Rules.{combined_202, combined_150, combined_232, combined_128}
+use Rattle.functions.proofs.NamedRules.{combined_202, combined_150, combined_232, combined_128}
 use Rattle.functions.proofs.laws.rule_laws.Goals as goal
 
 pub returns : goal.returns
