@@ -9,6 +9,7 @@ use Rattle.slicing.specs.declared.Component.{Component}
 use Rattle.slicing.specs.declared.Component.TheVariants.{A, B, C, D}
 use Rattle.slicing.specs.Columns.{Column}
 use Rattle.columns.specs.declared.four.Columns.{Columns}
+use Rattle.columns.proofs.Standing.{as_many}
 use Rattle.columns.proofs.Places.{repeated_push}
 use Rattle.columns.specs.Columns.{handles_of, AllStand, TopsRepeated}
 
@@ -24,10 +25,7 @@ abbrev pub Repeats : Columns → Columns → Component → Type 0
 Repeats hs r k = handles_of r k ≡ repeated (handles_of hs k)
 
 some_slices : (hs : Columns) (k : Component) → 1 ≤ length (handles_of hs k)
-some_slices hs A = hs.some
-some_slices hs B = omega (arith, hs.some, hs.level.0)
-some_slices hs C = omega (arith, hs.some, hs.level.1)
-some_slices hs D = omega (arith, hs.some, hs.level.2)
+some_slices hs k = omega (arith, hs.some, as_many hs k)
 
 pub tops_repeated : (hs r : Columns) → Repeats hs r A → Repeats hs r B → Repeats hs r C → Repeats hs r D → TopsRepeated hs r
 unfolding AllStand

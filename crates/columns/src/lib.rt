@@ -107,7 +107,8 @@ impl Columns {
     /// A component's column.
     // One of four, as in `Component::of` and `Recipe::term`: one generic struct is no plainer, as definitions name the fields.
     pub fn column(&self, component: Component) -> Column<24>
-        ensures { result ≡ handles_of self.now component }
+        ensures value { result ≡ handles_of self.now component }
+        ensures width { length result ≡ length self.now.a }
     {
         match component {
             Component::A => self.a,
