@@ -15,7 +15,8 @@ pub struct Column<const N: usize> {
 // Clauses see the handles.
 impl<const N: usize> Model for Column<N> {
     ghost use Rattle.std.specs.Prelude.{◌≡◌, ℕ, ◌-◌, ◌≤◌, List, ◌++◌, length, take, drop, replicate};
-    ghost use Rattle.std.proofs.Common.{arith, sym, ap, ◌∙◌, take-append-drop, length-take-le};
+    ghost use Rattle.std.proofs.Common.{arith, length-take-le};
+    ghost use Rattle.columns.specs.Places.{all_from_slices};
 
     ghost Value = { List ℕ };
 
@@ -25,9 +26,9 @@ impl<const N: usize> Model for Column<N> {
 
     ghost inverse = { λ hs. record { slices = hs ++ replicate (N - length hs) 0; len = length hs } };
 
-    ghost inverse_ok = { λ c h. let l : length (take c.len c.slices) ≡ c.len = length-take-le c.len c.slices (omega (arith, h.0, h.1)) in λ i. record {
-      slices = (ap (λ (n : ℕ). take c.len c.slices ++ replicate (N - n) 0) l ∙ ap (λ (t : List ℕ). take c.len c.slices ++ t) (sym h.2) ∙ take-append-drop c.len c.slices) i;
-      len = l i;
+    ghost inverse_ok = { λ c h. let wide : length (take c.len c.slices) ≡ c.len = length-take-le c.len c.slices (omega (arith, h.0, h.1)) in λ i. record {
+      slices = all_from_slices N c.len c.slices wide h.2 i;
+      len = wide i;
     } };
 }
 
@@ -51,6 +52,7 @@ impl<const N: usize> Column<N> {
     }
 
     /// The column of these handles.
+    #[tactic(auto, using(crate::proofs::Places::places))]
     pub fn from_slice(handles: &[u32]) -> Self
         requires { length handles.now ≤ N }
         ensures { result ≡ handles.now }
@@ -89,6 +91,7 @@ impl<const N: usize> Column<N> {
     }
 
     /// The column with its top slice once more.
+    #[tactic(auto, using(crate::proofs::Places::repeated_push))]
     pub fn repeat_top(&self) -> Self
         requires some { 1 ≤ length self.now }
         requires room { length self.now < N }

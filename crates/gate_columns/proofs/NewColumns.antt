@@ -1,5 +1,5 @@
 -- The four new columns of a recipe, from what its terms answered.
-use Rattle.std.proofs.Common.{◌≡◌, ℕ, List, [], ◌++◌, Ok, Err, Result, subst}
+use Rattle.std.proofs.Common.{◌≡◌, ℕ, List, [], ◌++◌, Ok, Err}
 use Rattle.functions.specs.declared.faults.StoreFault.{StoreFault}
 use Rattle.functions.specs.Tables.{Table}
 use Rattle.functions.specs.Meanings.{Meaning, qubits_of}
@@ -9,7 +9,6 @@ use Rattle.slicing.specs.declared.Component.{Component}
 use Rattle.slicing.specs.declared.Component.TheVariants.{A, B, C, D}
 use Rattle.slicing.specs.Columns.{Column}
 use Rattle.slicing.specs.Columns.{Columns as Four}
-use Rattle.recipes.specs.declared.terms.Term.{Term}
 use Rattle.recipes.specs.declared.Recipe.{Recipe}
 use Rattle.recipes.specs.Recipes.{term_of, term_column}
 use Rattle.recipes.specs.Plans.{term_plan}
@@ -19,9 +18,6 @@ use Rattle.columns.proofs.InTurn.{stopped_in_a, stopped_in_b, stopped_in_c, stop
 use Rattle.gate_columns.specs.declared.qubits.Literals.{Literals}
 use Rattle.gate_columns.specs.Gates.{LiteralsStand, TermMade, NewColumnsMade}
 use Rattle.gate_columns.proofs.Terms.{term_later}
-
-pub at_term : (v w : Meaning) (hs : Columns) (l : Literals) (t u : Term) (r : Result (List ℕ) StoreFault) → t ≡ u → TermMade v w hs l t r → TermMade v w hs l u r
-at_term v w hs l t u r e m = subst (λ (s : Term). TermMade v w hs l s r) e m
 
 -- what a term makes, and its column
 abbrev plan : ℕ → Literals → Recipe → Table → Four → Component → List Table

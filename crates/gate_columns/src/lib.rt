@@ -20,6 +20,7 @@ pub use qubits::{GateQubits, Literals};
 
 impl GateQubits {
     /// The target.
+    #[tactic(auto, unfolding(recipes::specs::Recipes::target))]
     pub fn target(self) -> Qubit
         ensures { result.0 ≡ target (listed self) }
     {
@@ -32,6 +33,7 @@ impl GateQubits {
 }
 
 /// The product of the controls' literals. Without controls it is the constant 1.
+#[tactic(auto, using(crate::proofs::Naming::controls_steps))]
 fn controls_product<S: FunctionStore>(store: &mut S, qubits: GateQubits) -> Result<u32, StoreFault>
     requires order { S.ordered store.old }
     ensures order { S.ordered store.new }
@@ -49,6 +51,7 @@ fn controls_product<S: FunctionStore>(store: &mut S, qubits: GateQubits) -> Resu
 }
 
 /// The target's literal and the product of the controls' literals.
+#[tactic(auto, using(crate::proofs::Naming::literals_steps))]
 pub fn literals<S: FunctionStore>(store: &mut S, qubits: GateQubits) -> Result<Literals, StoreFault>
     requires order { S.ordered store.old }
     ensures order { S.ordered store.new }
@@ -66,6 +69,7 @@ pub fn literals<S: FunctionStore>(store: &mut S, qubits: GateQubits) -> Result<L
 
 /// The first carry of an addition.
 // Recipes are data with one interpreter, and no closures: laws say of each recipe that it is its gate's matrix.
+#[tactic(auto, using(crate::proofs::Carries::carry_steps))]
 pub fn first_carry<S: FunctionStore>(
     store: &mut S,
     literals: Literals,
@@ -87,6 +91,7 @@ pub fn first_carry<S: FunctionStore>(
 }
 
 /// An operand's column.
+#[tactic(auto, using(crate::proofs::Operands::operand_steps))]
 pub fn operand<S: FunctionStore>(
     store: &mut S,
     columns: &Columns,
@@ -123,6 +128,7 @@ pub fn operand<S: FunctionStore>(
 }
 
 /// A new column.
+#[tactic(auto, using(crate::proofs::Terms::term_steps))]
 pub fn term<S: FunctionStore>(
     store: &mut S,
     columns: &Columns,

@@ -6,7 +6,7 @@ use Rattle.columns.proofs.Adding.{adding_none, adding_more, adding_stopped, addi
 use Rattle.columns.proofs.add_columns.Goals as goal
 
 pub loop-p-init : goal.loop-p-init
-loop-p-init g c = rw c.new-sums.ensures (c.requires, adding_none _ _ _ _, search rules)
+loop-p-init g c = search (rules, adding_none)
 
 pub returns-in_err-slice-clause-added : goal.returns-in_err-slice-clause-added
 returns-in_err-slice-clause-added g c =

@@ -6,7 +6,7 @@ use Rattle.columns.proofs.Choosing.{choosing_none, choosing_more, choosing_stopp
 use Rattle.columns.proofs.choose_column.Goals as goal
 
 pub loop-p-init : goal.loop-p-init
-loop-p-init g c = rw c.new-chosen.ensures (c.requires, choosing_none _ _ _ _, search rules)
+loop-p-init g c = search (rules, choosing_none)
 
 pub returns-in_err-combine-clause-chosen : goal.returns-in_err-combine-clause-chosen
 returns-in_err-combine-clause-chosen g c =

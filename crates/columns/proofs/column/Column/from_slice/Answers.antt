@@ -1,6 +1,0 @@
-use Rattle.std.proofs.Common.{rules}
-use Rattle.columns.proofs.Places.{all_places, unused_rest}
-use Rattle.columns.proofs.column.Column.from_slice.Goals as goal
-
-pub invariant_of-result : goal.invariant_of-result
-invariant_of-result g c = (c.requires, all_places g.row.N _ _ (search rules) c.requires, unused_rest g.row.N _ _ (search rules))
