@@ -46,6 +46,3 @@ module _ (v w₁ w₂ w₃ : Meaning) (hs : List ℕ) (q : Qubit) (hv : ℕ) whe
         let c = chosen_later v w₂ w₃ (lo ++ hi) hv low high r g m (literal n q.0) lo hi (g.keeps hv _ k) (stand_for_keeps w₁ w₂ hi b.0 low lo a.1) b.1 in
         built_after _ v w₁ w₃ lo (hi ++ chosen_column n (literal n q.0) lo hi) r a.0
         (built_after _ w₁ w₂ w₃ hi (chosen_column n (literal n q.0) lo hi) r b.0 c)
-
--- what the three steps lead to
-pub ruleset flipping_steps = (flip_stopped_low, flip_stopped_high, flip_done)

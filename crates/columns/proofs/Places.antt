@@ -27,6 +27,3 @@ repeated_push (x ∷ []) d zero e = refl
 repeated_push (x ∷ []) d (suc k) e = absurd (let b : ⊥ = omega arith in b)
 repeated_push (x ∷ (y ∷ l)) d zero e = absurd (let b : ⊥ = omega arith in b)
 repeated_push {X = X} (x ∷ (y ∷ l)) d (suc k) e = ap (λ (t : List X). x ∷ t) (repeated_push (y ∷ l) d k (omega arith))
-
--- what is known of the places
-pub ruleset places = (unused_less, all_places, unused_rest)

@@ -52,7 +52,6 @@ impl<const N: usize> Column<N> {
     }
 
     /// The column of these handles.
-    #[tactic(auto, using(crate::proofs::Places::places))]
     pub fn from_slice(handles: &[u32]) -> Self
         requires { length handles.now ≤ N }
         ensures { result ≡ handles.now }
@@ -91,7 +90,6 @@ impl<const N: usize> Column<N> {
     }
 
     /// The column with its top slice once more.
-    #[tactic(auto, using(crate::proofs::Places::repeated_push))]
     pub fn repeat_top(&self) -> Self
         requires some { 1 ≤ length self.now }
         requires room { length self.now < N }

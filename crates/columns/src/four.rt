@@ -5,7 +5,7 @@ use crate::Column;
 
 /// The handles of four columns of slices, one column for each component of a quadruple. All four have the same number of
 /// slices, from 1 to 24.
-#[derive(Clone, Copy, PartialEq, Eq)]
+#[derive(Clone, Copy)]
 pub struct Columns {
     pub a: Column<24>,
     pub b: Column<24>,

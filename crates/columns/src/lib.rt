@@ -56,7 +56,6 @@ pub fn choose_column<S: FunctionStore, const N: usize>(
 }
 
 /// A column with qubit q turned: the literal of q chooses the column where q is 0, else the column where it is 1.
-#[tactic(auto, using(crate::proofs::Flipping::flipping_steps))]
 pub fn flip_column<S: FunctionStore, const N: usize>(
     store: &mut S,
     column: &Column<N>,

@@ -44,6 +44,3 @@ module _ (v w : Meaning) (l : Literals) (r : Result ℕ StoreFault) where
   carry_controls_and_target m c h =
       let n = qubits_of v in
       combination v v w 128 l.controls l.literal 1 c (literal n l.target.0) (constant n true) (both n c (literal n l.target.0)) r refl h.of_controls h.of_target (under_1 v) (both_rule n c (literal n l.target.0)) m
-
--- what the kinds of a first carry lead to
-pub ruleset carry_steps = (carry_nowhere, carry_everywhere, carry_target, carry_not_target, carry_controls_and_target)

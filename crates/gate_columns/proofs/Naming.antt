@@ -119,8 +119,3 @@ module _ (v w₁ w₂ : Meaning) (qs : GateQubits) (t : Qubit) (named : t.0 ≡ 
             };
           },
         )
-
--- what the steps of the literals lead to
-pub ruleset controls_steps = (no_controls, one_control, two_stopped_first, two_stopped_second, two_controls)
-
-pub ruleset literals_steps = (literals_stopped_target, literals_stopped_controls, literals_done)

@@ -66,6 +66,3 @@ operand_controlled v u w hs l k p f e m₁ r m x c h s =
     let a : Grew v u (flip_plan n l.target.0 (x k)) × StandFor u f turned = m₁ (x k) hp s.inside s.of_target in
     built_after _ v u w (flip_plan n l.target.0 (x k)) (chosen_column n c turned (x k)) r a.0
     (chosen_later v u w (flip_plan n l.target.0 (x k)) l.controls f p r a.0 m c turned (x k) (a.0.keeps l.controls c s.of_controls) a.1 (stand_for_keeps v u _ a.0 p (x k) hp))
-
--- what the steps of an operand lead to
-pub ruleset operand_steps = (operand_zero, operand_old, operand_fixed, operand_flipped, operand_chosen, operand_stopped, operand_controlled)

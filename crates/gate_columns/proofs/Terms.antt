@@ -109,6 +109,3 @@ module _ (v w₁ w₂ w₃ w₄ : Meaning) (hs : Columns) (l : Literals) (o p : 
           (built_after _ w₁ w₂ w₄ pp (f ∷ sums_plan n f f ps qs) r b.0
           (built_after _ w₂ w₃ w₄ (f ∷ []) (sums_plan n f f ps qs) r d.0
           (added_later v w₃ w₄ ((po ++ pp) ++ (f ∷ [])) hp hq he r g₃ m ps qs f hp₃ hq₃ d.1)))
-
--- what the steps of a term lead to
-pub ruleset term_steps = (term_just, term_stopped_first, term_stopped_second, term_stopped_carry, term_added)

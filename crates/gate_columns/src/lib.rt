@@ -33,7 +33,6 @@ impl GateQubits {
 }
 
 /// The product of the controls' literals. Without controls it is the constant 1.
-#[tactic(auto, using(crate::proofs::Naming::controls_steps))]
 fn controls_product<S: FunctionStore>(store: &mut S, qubits: GateQubits) -> Result<u32, StoreFault>
     requires order { S.ordered store.old }
     ensures order { S.ordered store.new }
@@ -51,7 +50,6 @@ fn controls_product<S: FunctionStore>(store: &mut S, qubits: GateQubits) -> Resu
 }
 
 /// The target's literal and the product of the controls' literals.
-#[tactic(auto, using(crate::proofs::Naming::literals_steps))]
 pub fn literals<S: FunctionStore>(store: &mut S, qubits: GateQubits) -> Result<Literals, StoreFault>
     requires order { S.ordered store.old }
     ensures order { S.ordered store.new }
@@ -69,7 +67,6 @@ pub fn literals<S: FunctionStore>(store: &mut S, qubits: GateQubits) -> Result<L
 
 /// The first carry of an addition.
 // Recipes are data with one interpreter, and no closures: laws say of each recipe that it is its gate's matrix.
-#[tactic(auto, using(crate::proofs::Carries::carry_steps))]
 pub fn first_carry<S: FunctionStore>(
     store: &mut S,
     literals: Literals,
@@ -91,7 +88,6 @@ pub fn first_carry<S: FunctionStore>(
 }
 
 /// An operand's column.
-#[tactic(auto, using(crate::proofs::Operands::operand_steps))]
 pub fn operand<S: FunctionStore>(
     store: &mut S,
     columns: &Columns,
@@ -128,7 +124,6 @@ pub fn operand<S: FunctionStore>(
 }
 
 /// A new column.
-#[tactic(auto, using(crate::proofs::Terms::term_steps))]
 pub fn term<S: FunctionStore>(
     store: &mut S,
     columns: &Columns,
