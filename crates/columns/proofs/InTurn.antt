@@ -3,15 +3,15 @@ use Rattle.std.proofs.Common.{◌≡◌, List, [], ◌++◌, append_assoc}
 use Rattle.functions.specs.declared.faults.StoreFault.{StoreFault}
 use Rattle.functions.specs.Tables.{Table}
 use Rattle.functions.specs.Meanings.{Meaning}
-use Rattle.functions.specs.Growth.{Grew, Stopped}
+use Rattle.functions.specs.Growth.{Grew, Stopped, StandFor}
 use Rattle.functions.proofs.Growth.{grew_then, stopped_after, stopped_before}
+use Rattle.functions.proofs.Handles.{stand_for_keeps}
 use Rattle.slicing.specs.declared.Component.{Component}
 use Rattle.slicing.specs.declared.Component.TheVariants.{A, B, C, D}
 use Rattle.slicing.specs.Columns.{Columns as Four}
 use Rattle.slicing.specs.Operations.{for_each}
 use Rattle.columns.specs.declared.four.Columns.{Columns}
-use Rattle.columns.specs.Columns.{Stands, AllStand}
-use Rattle.columns.proofs.Standing.{stands_keeps}
+use Rattle.columns.specs.Columns.{AllStand}
 
 module _ {v w₁ : Meaning} (plan : Component → List Table) (rest : List Table) where
   pub stopped_in_a : {e : StoreFault} → Stopped v w₁ (plan A) e → Stopped v w₁ (for_each plan rest) e
@@ -38,10 +38,10 @@ for_each_then plan rest = simp append_assoc
 
 -- four columns, each made after the other, stand together at the end
 pub four_stand : (w₁ w₂ w₃ w₄ : Meaning) (pb pc pd : List Table) → Grew w₁ w₂ pb → Grew w₂ w₃ pc → Grew w₃ w₄ pd → (y : Columns) (x : Four)
-    → Stands w₁ y.slices.0 y.a (x A) → Stands w₂ y.slices.0 y.b (x B) → Stands w₃ y.slices.0 y.c (x C) → Stands w₄ y.slices.0 y.d (x D) → AllStand w₄ y x
+    → StandFor w₁ y.a (x A) → StandFor w₂ y.b (x B) → StandFor w₃ y.c (x C) → StandFor w₄ y.d (x D) → AllStand w₄ y x
 unfolding AllStand
 four_stand w₁ w₂ w₃ w₄ pb pc pd gb gc gd y x ha hb hc hd A =
-    stands_keeps w₃ w₄ pd gd _ y.a (x A) (stands_keeps w₂ w₃ pc gc _ y.a (x A) (stands_keeps w₁ w₂ pb gb _ y.a (x A) ha))
-four_stand w₁ w₂ w₃ w₄ pb pc pd gb gc gd y x ha hb hc hd B = stands_keeps w₃ w₄ pd gd _ y.b (x B) (stands_keeps w₂ w₃ pc gc _ y.b (x B) hb)
-four_stand w₁ w₂ w₃ w₄ pb pc pd gb gc gd y x ha hb hc hd C = stands_keeps w₃ w₄ pd gd _ y.c (x C) hc
+    stand_for_keeps w₃ w₄ pd gd y.a (x A) (stand_for_keeps w₂ w₃ pc gc y.a (x A) (stand_for_keeps w₁ w₂ pb gb y.a (x A) ha))
+four_stand w₁ w₂ w₃ w₄ pb pc pd gb gc gd y x ha hb hc hd B = stand_for_keeps w₃ w₄ pd gd y.b (x B) (stand_for_keeps w₂ w₃ pc gc y.b (x B) hb)
+four_stand w₁ w₂ w₃ w₄ pb pc pd gb gc gd y x ha hb hc hd C = stand_for_keeps w₃ w₄ pd gd y.c (x C) hc
 four_stand w₁ w₂ w₃ w₄ pb pc pd gb gc gd y x ha hb hc hd D = hd

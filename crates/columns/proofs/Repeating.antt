@@ -1,50 +1,51 @@
 -- Top slices once more.
-use Rattle.std.proofs.Common.{◌≡◌, ℕ, zero, suc, ◌+◌, ◌-◌, ◌<◌, ◌≤◌, List, [], ◌∷◌, ◌++◌, length, get_or, take, set, sym, refl, ap, ◌∙◌, subst, add-one, arith}
+use Rattle.std.proofs.Common.{◌≡◌, ℕ, suc, ◌-◌, ◌<◌, ◌≤◌, List, [], length, get_or, ap, ◌∙◌, arith}
 use Rattle.functions.specs.Meanings.{Meaning}
 use Rattle.functions.specs.Growth.{StandFor}
-use Rattle.functions.proofs.Handles.{stand_for_more_set}
 use Rattle.slicing.specs.TwosComplement.{repeated}
+use Rattle.functions.proofs.Handles.{stand_for_length, stand_for_at, stand_for_push}
+use Rattle.slicing.proofs.SignedNumbers.{length_repeated}
 use Rattle.slicing.specs.declared.Component.{Component}
 use Rattle.slicing.specs.declared.Component.TheVariants.{A, B, C, D}
 use Rattle.slicing.specs.Columns.{Column}
-use Rattle.slicing.specs.Columns.{Columns as Four}
 use Rattle.columns.specs.declared.four.Columns.{Columns}
-use Rattle.columns.specs.Columns.{handles_of, Stands, AllStand, TopsRepeated}
-use Rattle.columns.proofs.Standing.{stands_length, stands_at}
+use Rattle.columns.proofs.Standing.{as_many}
+use Rattle.columns.proofs.Places.{repeated_push}
+use Rattle.columns.specs.Columns.{handles_of, AllStand, TopsRepeated}
 
-repeated_push : {X : Type 0} (l : List X) (d : X) (k : ℕ) → length l ≡ suc k → repeated l ≡ l ++ (get_or l k d ∷ [])
-unfolding repeated
-repeated_push [] d k e = absurd (let b : ⊥ = omega arith in b)
-repeated_push (x ∷ []) d zero e = refl
-repeated_push (x ∷ []) d (suc k) e = absurd (let b : ⊥ = omega arith in b)
-repeated_push (x ∷ (y ∷ l)) d zero e = absurd (let b : ⊥ = omega arith in b)
-repeated_push {X = X} (x ∷ (y ∷ l)) d (suc k) e = ap (λ (t : List X). x ∷ t) (repeated_push (y ∷ l) d k (omega arith))
-
-pub top_repeated : (v : Meaning) (count : ℕ) (hs r : List ℕ) (ss : Column) → 1 ≤ count → count < length hs → r ≡ set hs count (get_or hs (count - 1) 0) → Stands v count hs ss → Stands v (count + 1) r (repeated ss)
-unfolding Stands
-top_repeated v count hs r ss some few e h =
-    let l : length ss ≡ count = stands_length v count hs ss (omega arith) h in
-    let m : count - 1 < count = omega arith in
-    subst (λ (x : List ℕ). StandFor v (take (count + 1) x) (repeated ss)) (sym e)
-    (subst (λ (x : Column). StandFor v (take (count + 1) (set hs count (get_or hs (count - 1) 0))) x) (sym (repeated_push ss [] (count - 1) (omega arith)))
-    (stand_for_more_set v hs count (get_or hs (count - 1) 0) ss (get_or ss (count - 1) []) few h (stands_at v count hs ss (count - 1) (omega arith) m h)))
+top_repeated : (v : Meaning) (hs : List ℕ) (ss : Column) → 1 ≤ length hs → StandFor v hs ss → StandFor v (repeated hs) (repeated ss)
+top_repeated v hs ss some h =
+    let k : ℕ = length hs - 1 in
+    let e : length hs ≡ suc k = omega arith in
+    let l : length ss ≡ suc k = stand_for_length v hs ss h ∙ e in
+    rw (repeated_push hs 0 k e, repeated_push ss [] k l) (stand_for_push v hs ss (get_or hs k 0) (get_or ss k []) h (stand_for_at v hs ss k h (omega arith)))
 
 -- the column of a component, in two of four columns, with its top slice once more
 abbrev pub Repeats : Columns → Columns → Component → Type 0
-Repeats hs r k = handles_of r k ≡ set (handles_of hs k) hs.slices.0 (get_or (handles_of hs k) (hs.slices.0 - 1) 0)
+Repeats hs r k = handles_of r k ≡ repeated (handles_of hs k)
 
-abbrev pub Full : Columns → Component → Type 0
-Full hs k = length (handles_of hs k) ≡ 24
+some_slices : (hs : Columns) (k : Component) → 1 ≤ length (handles_of hs k)
+some_slices hs k = omega (arith, hs.some, as_many hs k)
 
-pub tops_repeated : (hs r : Columns) → hs.slices.0 < 24 → r.slices.0 ≡ hs.slices.0 + 1 → Full hs A → Full hs B → Full hs C → Full hs D → Repeats hs r A → Repeats hs r B → Repeats hs r C → Repeats hs r D → TopsRepeated hs r
+pub tops_repeated : (hs r : Columns) → Repeats hs r A → Repeats hs r B → Repeats hs r C → Repeats hs r D → TopsRepeated hs r
 unfolding AllStand
-tops_repeated hs r few more fa fb fc fd a b c d = record {
-  slices = more ∙ add-one hs.slices.0;
-  stand = λ v x h k. subst (λ (count : ℕ). Stands v count (handles_of r k) (repeated (x k))) (sym more) (one v x h k);
+tops_repeated hs r a b c d = record {
+  slices = ap length a ∙ length_repeated hs.a (omega (arith, hs.some));
+  stand = λ v x h k. rw (each k) (top_repeated v (handles_of hs k) (x k) (some_slices hs k) (h k));
 }
   where
-    one : (v : Meaning) (x : Four) → ((k : Component) → Stands v hs.slices.0 (handles_of hs k) (x k)) → (k : Component) → Stands v (hs.slices.0 + 1) (handles_of r k) (repeated (x k))
-    one v x h A = top_repeated v hs.slices.0 hs.a r.a (x A) hs.some (omega arith) a (h A)
-    one v x h B = top_repeated v hs.slices.0 hs.b r.b (x B) hs.some (omega arith) b (h B)
-    one v x h C = top_repeated v hs.slices.0 hs.c r.c (x C) hs.some (omega arith) c (h C)
-    one v x h D = top_repeated v hs.slices.0 hs.d r.d (x D) hs.some (omega arith) d (h D)
+    each : (k : Component) → Repeats hs r k
+    each A = a
+    each B = b
+    each C = c
+    each D = d
+
+-- four columns with their top slices once more are again equally wide
+pub level_tops : (hs : Columns) → length hs.a < 24
+    → (1 ≤ length (repeated hs.a)) × (length (repeated hs.a) ≤ 24) × (length (repeated hs.b) ≡ length (repeated hs.a)) × (length (repeated hs.c) ≡ length (repeated hs.a)) × (length (repeated hs.d) ≡ length (repeated hs.a))
+level_tops hs room =
+    let a = length_repeated hs.a (some_slices hs A) in
+    let b = length_repeated hs.b (some_slices hs B) in
+    let c = length_repeated hs.c (some_slices hs C) in
+    let d = length_repeated hs.d (some_slices hs D) in
+    rw (a, b, c, d) (omega arith, omega (arith, room), ap suc hs.level.0, ap suc hs.level.1, ap suc hs.level.2)

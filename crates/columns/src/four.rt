@@ -1,17 +1,17 @@
 //! Four columns of slices.
-ghost use Rattle.std.specs.Prelude.{◌≤◌};
+ghost use Rattle.std.specs.Prelude.{◌≡◌, ◌≤◌, length};
 
-use exact::SliceCount;
+use crate::Column;
 
-/// The handles of four columns of slices, one column for each component of a quadruple, the lowest slice first. All four
-/// have the same number of slices; places beyond it mean nothing.
+/// The handles of four columns of slices, one column for each component of a quadruple. All four have the same number of
+/// slices, from 1 to 24.
 #[derive(Clone, Copy)]
 pub struct Columns {
-    pub slices: SliceCount,
-    pub a: [u32; 24],
-    pub b: [u32; 24],
-    pub c: [u32; 24],
-    pub d: [u32; 24],
-    ghost some: { 1 ≤ slices.0 },
-    ghost few: { slices.0 ≤ 24 },
+    pub a: Column<24>,
+    pub b: Column<24>,
+    pub c: Column<24>,
+    pub d: Column<24>,
+    ghost some: { 1 ≤ length a },
+    ghost few: { length a ≤ 24 },
+    ghost level: { (length b ≡ length a) × (length c ≡ length a) × (length d ≡ length a) },
 }

@@ -2,134 +2,113 @@
 //! slice.
 #![tactic(auto)]
 
-ghost use Rattle.std.specs.Prelude.{◌≡◌, ◌-◌, ◌<◌, ◌≤◌, set, slice_index, slice_set};
-ghost use Rattle.adder.specs.Slices.{SliceAdded};
-ghost use Rattle.columns.specs.Columns.{handles_of, ColumnFixed, ColumnChosen, ColumnFlipped, ColumnsAdded, TopsRepeated};
+ghost use Rattle.std.specs.Prelude.{◌≡◌, ◌<◌, ◌≤◌, length, min};
+ghost use Rattle.columns.specs.Columns.{handles_of, Wide, ColumnFixed, ColumnChosen, ColumnFlipped, ColumnsAdded, TopsRepeated};
 
-use adder::SliceSum;
+use adder::add_slice;
 use exact::{Qubit, SliceCount};
+use functions::rules::CHOICE;
 use functions::{FunctionStore, StoreFault};
 use slicing::Component;
 
+mod column;
 mod four;
 
+pub use column::Column;
 pub use four::Columns;
 
 /// A column with qubit q set to a bit.
-pub fn fix_column<S: FunctionStore>(
+pub fn fix_column<S: FunctionStore, const N: usize>(
     store: &mut S,
-    slices: SliceCount,
-    column: &[u32; 24],
+    column: &Column<N>,
     q: Qubit,
     bit: bool,
-) -> Result<[u32; 24], StoreFault>
-    requires order { S.ordered store.old }
-    requires few { slices.0 ≤ 24 }
+) -> Result<Column<N>, StoreFault>
+    requires { S.ordered store.old }
     ensures order { S.ordered store.new }
-    ensures fixed { ColumnFixed (S.meaning store.old) (S.meaning store.new) slices.0 column.now q bit result }
+    ensures width { Wide (length column.now) result }
+    ensures fixed { ColumnFixed (S.meaning store.old) (S.meaning store.new) column.now q bit result }
 {
-    let mut handles = [0u32; 24];
-    for i in 0..slices.0 as usize {
-        handles[i] = store.fixed(column[i], q, bit)?;
+    let mut fixed = Column::new();
+    for slice in column.as_slice() {
+        fixed.push(store.fixed(*slice, q, bit)?);
     }
-    Ok(handles)
+    Ok(fixed)
 }
 
 /// The column that f chooses: p where it is 1, else q.
-pub fn choose_column<S: FunctionStore>(
+pub fn choose_column<S: FunctionStore, const N: usize>(
     store: &mut S,
-    slices: SliceCount,
     f: u32,
-    p: &[u32; 24],
-    q: &[u32; 24],
-) -> Result<[u32; 24], StoreFault>
-    requires order { S.ordered store.old }
-    requires few { slices.0 ≤ 24 }
+    p: &Column<N>,
+    q: &Column<N>,
+) -> Result<Column<N>, StoreFault>
+    requires { S.ordered store.old }
     ensures order { S.ordered store.new }
-    ensures chosen { ColumnChosen (S.meaning store.old) (S.meaning store.new) slices.0 f p.now q.now result }
+    ensures width { Wide (min (length p.now) (length q.now)) result }
+    ensures chosen { ColumnChosen (S.meaning store.old) (S.meaning store.new) f p.now q.now result }
 {
-    let mut handles = [0u32; 24];
-    for i in 0..slices.0 as usize {
-        handles[i] = store.combine(202, f, p[i], q[i])?;
+    let mut chosen = Column::new();
+    for (p, q) in p.as_slice().iter().zip(q.as_slice()) {
+        chosen.push(store.combine(CHOICE, f, *p, *q)?);
     }
-    Ok(handles)
+    Ok(chosen)
 }
 
 /// A column with qubit q turned: the literal of q chooses the column where q is 0, else the column where it is 1.
-pub fn flip_column<S: FunctionStore>(
+pub fn flip_column<S: FunctionStore, const N: usize>(
     store: &mut S,
-    slices: SliceCount,
-    column: &[u32; 24],
+    column: &Column<N>,
     q: Qubit,
     literal: u32,
-) -> Result<[u32; 24], StoreFault>
-    requires order { S.ordered store.old }
-    requires few { slices.0 ≤ 24 }
+) -> Result<Column<N>, StoreFault>
+    requires { S.ordered store.old }
     ensures order { S.ordered store.new }
-    ensures flipped { ColumnFlipped (S.meaning store.old) (S.meaning store.new) slices.0 column.now q literal result }
+    ensures width { Wide (length column.now) result }
+    ensures flipped { ColumnFlipped (S.meaning store.old) (S.meaning store.new) column.now q literal result }
 {
-    let low = fix_column(store, slices, column, q, false)?;
-    let high = fix_column(store, slices, column, q, true)?;
-    choose_column(store, slices, literal, &low, &high)
-}
-
-/// One slice of p + q, or of p − q where e is 1: makes D, the odd sum of q and e, then the sum of p, D and the carry,
-/// then the next carry.
-fn add_slice<S: FunctionStore>(
-    store: &mut S,
-    p: u32,
-    q: u32,
-    e: u32,
-    carry: u32,
-) -> Result<SliceSum, StoreFault>
-    requires order { S.ordered store.old }
-    ensures order { S.ordered store.new }
-    ensures added { SliceAdded (S.meaning store.old) (S.meaning store.new) p q e carry result }
-{
-    let turned = store.combine(150, q, e, 0)?;
-    let sum = store.combine(150, p, turned, carry)?;
-    let carry = store.combine(232, p, turned, carry)?;
-    Ok(SliceSum { sum, carry })
+    let low = fix_column(store, column, q, false)?;
+    let high = fix_column(store, column, q, true)?;
+    choose_column(store, literal, &low, &high)
 }
 
 /// The sum of two columns, or their difference where the first carry e is 1.
-pub fn add_columns<S: FunctionStore>(
+pub fn add_columns<S: FunctionStore, const N: usize>(
     store: &mut S,
-    slices: SliceCount,
-    p: &[u32; 24],
-    q: &[u32; 24],
+    p: &Column<N>,
+    q: &Column<N>,
     e: u32,
-) -> Result<[u32; 24], StoreFault>
-    requires order { S.ordered store.old }
-    requires few { slices.0 ≤ 24 }
+) -> Result<Column<N>, StoreFault>
+    requires { S.ordered store.old }
     ensures order { S.ordered store.new }
-    ensures added { ColumnsAdded (S.meaning store.old) (S.meaning store.new) slices.0 p.now q.now e result }
+    ensures width { Wide (min (length p.now) (length q.now)) result }
+    ensures added { ColumnsAdded (S.meaning store.old) (S.meaning store.new) p.now q.now e result }
 {
-    let mut sums = [0u32; 24];
+    let mut sums = Column::new();
     let mut carry = e;
-    for i in 0..slices.0 as usize {
-        let slice = add_slice(store, p[i], q[i], e, carry)?;
-        sums[i] = slice.sum;
+    for (p, q) in p.as_slice().iter().zip(q.as_slice()) {
+        let slice = add_slice(store, *p, *q, e, carry)?;
+        sums.push(slice.sum);
         carry = slice.carry;
     }
     Ok(sums)
 }
 
-/// A column of so many slices with its top slice once more.
-fn repeat_top(column: &[u32; 24], slices: usize) -> [u32; 24]
-    requires some { 1 ≤ slices }
-    requires few { slices < 24 }
-    ensures { result ≡ slice_set column.now slices (slice_index column.now (slices - 1)) }
-{
-    let mut handles = *column;
-    handles[slices] = column[slices - 1];
-    handles
-}
-
 impl Columns {
-    /// The handles of a component's column.
-    pub fn column(&self, component: Component) -> [u32; 24]
-        ensures { result ≡ handles_of self.now component }
+    /// The number of slices of each column.
+    pub fn slices(&self) -> SliceCount
+        ensures value { result.0 ≡ length self.now.a }
+        ensures some { 1 ≤ result.0 }
+        ensures few { result.0 ≤ 24 }
+    {
+        SliceCount(self.a.len() as u32)
+    }
+
+    /// A component's column.
+    // One of four, as in `Component::of` and `Recipe::term`: one generic struct is no plainer, as definitions name the fields.
+    pub fn column(&self, component: Component) -> Column<24>
+        ensures value { result ≡ handles_of self.now component }
+        ensures width { length result ≡ length self.now.a }
     {
         match component {
             Component::A => self.a,
@@ -141,16 +120,14 @@ impl Columns {
 
     /// Each top slice once more. Nothing is made.
     pub fn repeat_tops(&self) -> Columns
-        requires { self.now.slices.0 < 24 }
+        requires { length self.now.a < 24 }
         ensures { TopsRepeated self.now result }
     {
-        let slices = self.slices.0 as usize;
         Columns {
-            slices: SliceCount(self.slices.0 + 1),
-            a: repeat_top(&self.a, slices),
-            b: repeat_top(&self.b, slices),
-            c: repeat_top(&self.c, slices),
-            d: repeat_top(&self.d, slices),
+            a: self.a.repeat_top(),
+            b: self.b.repeat_top(),
+            c: self.c.repeat_top(),
+            d: self.d.repeat_top(),
         }
     }
 }

@@ -57,12 +57,12 @@ FirstCarryMade v w l e r =
 unfoldable pub OperandMade : Meaning → Meaning → Columns → Literals → Operand → Result (List ℕ) StoreFault → Type 0
 OperandMade v w hs l o r =
     (x : Four) (c : Table) → AllStand v hs x → LiteralsStand v l c
-    → ColumnBuilt v w (operand_plan (qubits_of v) l.target.0 c x o) hs.slices.0 (operand_column (qubits_of v) l.target.0 c x o) r
+    → ColumnBuilt v w (operand_plan (qubits_of v) l.target.0 c x o) (operand_column (qubits_of v) l.target.0 c x o) r
 
 unfoldable pub TermMade : Meaning → Meaning → Columns → Literals → Term → Result (List ℕ) StoreFault → Type 0
 TermMade v w hs l t r =
     (x : Four) (c : Table) → AllStand v hs x → LiteralsStand v l c
-    → ColumnBuilt v w (term_plan (qubits_of v) l.target.0 c x t) hs.slices.0 (term_column (qubits_of v) l.target.0 c x t) r
+    → ColumnBuilt v w (term_plan (qubits_of v) l.target.0 c x t) (term_column (qubits_of v) l.target.0 c x t) r
 
 unfoldable pub NewColumnsMade : Meaning → Meaning → Columns → Literals → Recipe → Result Columns StoreFault → Type 0
 NewColumnsMade v w hs l recipe r =

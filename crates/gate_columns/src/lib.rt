@@ -1,13 +1,14 @@
 //! The new columns of a gate, made over any function store as the gate's recipe says.
 #![tactic(auto)]
 
-ghost use Rattle.std.specs.Prelude.{◌≡◌, ◌<◌, ◌≤◌};
+ghost use Rattle.std.specs.Prelude.{◌≡◌, length};
 ghost use Rattle.recipes.specs.Recipes.{target};
-ghost use Rattle.columns.specs.Columns.{Sliced};
+ghost use Rattle.columns.specs.Columns.{Wide, Sliced};
 ghost use Rattle.gate_columns.specs.Gates.{listed, ControlsMade, LiteralsMade, FirstCarryMade, OperandMade, TermMade, NewColumnsMade};
 
-use columns::{Columns, add_columns, choose_column, fix_column, flip_column};
+use columns::{Column, Columns, add_columns, choose_column, fix_column, flip_column};
 use exact::Qubit;
+use functions::rules::{CONJUNCTION, PARITY};
 use functions::{FunctionStore, StoreFault};
 use recipes::Recipe;
 use recipes::terms::{FirstCarry, Operand, Term};
@@ -19,6 +20,7 @@ pub use qubits::{GateQubits, Literals};
 
 impl GateQubits {
     /// The target.
+    #[tactic(auto, unfolding(recipes::specs::Recipes::target))]
     pub fn target(self) -> Qubit
         ensures { result.0 ≡ target (listed self) }
     {
@@ -42,7 +44,7 @@ fn controls_product<S: FunctionStore>(store: &mut S, qubits: GateQubits) -> Resu
         GateQubits::Three(first, second, _) => {
             let first = store.literal(first)?;
             let second = store.literal(second)?;
-            store.combine(128, first, second, 1)
+            store.combine(CONJUNCTION, first, second, 1)
         }
     }
 }
@@ -64,6 +66,7 @@ pub fn literals<S: FunctionStore>(store: &mut S, qubits: GateQubits) -> Result<L
 }
 
 /// The first carry of an addition.
+// Recipes are data with one interpreter, and no closures: laws say of each recipe that it is its gate's matrix.
 pub fn first_carry<S: FunctionStore>(
     store: &mut S,
     literals: Literals,
@@ -77,9 +80,9 @@ pub fn first_carry<S: FunctionStore>(
         FirstCarry::Nowhere => Ok(0),
         FirstCarry::Everywhere => Ok(1),
         FirstCarry::Target => Ok(literals.literal),
-        FirstCarry::NotTarget => store.combine(150, literals.literal, 1, 0),
+        FirstCarry::NotTarget => store.combine(PARITY, literals.literal, 1, 0),
         FirstCarry::ControlsAndTarget => {
-            store.combine(128, literals.controls, literals.literal, 1)
+            store.combine(CONJUNCTION, literals.controls, literals.literal, 1)
         }
     }
 }
@@ -90,36 +93,32 @@ pub fn operand<S: FunctionStore>(
     columns: &Columns,
     literals: Literals,
     operand: Operand,
-) -> Result<[u32; 24], StoreFault>
+) -> Result<Column<24>, StoreFault>
     requires order { S.ordered store.old }
     ensures order { S.ordered store.new }
+    ensures width { Wide (length columns.now.a) result }
     ensures made { OperandMade (S.meaning store.old) (S.meaning store.new) columns.now literals operand result }
 {
-    let slices = columns.slices;
     match operand {
-        Operand::Zero => Ok([0u32; 24]),
+        Operand::Zero => Ok(Column::zeros(columns.a.len())),
         Operand::Old(k) => Ok(columns.column(k)),
-        Operand::Fixed(k, bit) => {
-            fix_column(store, slices, &columns.column(k), literals.target, bit)
-        }
+        Operand::Fixed(k, bit) => { fix_column(store, &columns.column(k), literals.target, bit) }
         Operand::Flipped(k) => flip_column(
             store,
-            slices,
             &columns.column(k),
             literals.target,
             literals.literal,
         ),
         Operand::Chosen(k, l) => choose_column(
             store,
-            slices,
             literals.literal,
             &columns.column(k),
             &columns.column(l),
         ),
         Operand::Controlled(k) => {
             let old = columns.column(k);
-            let turned = flip_column(store, slices, &old, literals.target, literals.literal)?;
-            choose_column(store, slices, literals.controls, &turned, &old)
+            let turned = flip_column(store, &old, literals.target, literals.literal)?;
+            choose_column(store, literals.controls, &turned, &old)
         }
     }
 }
@@ -130,9 +129,10 @@ pub fn term<S: FunctionStore>(
     columns: &Columns,
     literals: Literals,
     term: Term,
-) -> Result<[u32; 24], StoreFault>
+) -> Result<Column<24>, StoreFault>
     requires order { S.ordered store.old }
     ensures order { S.ordered store.new }
+    ensures width { Wide (length columns.now.a) result }
     ensures made { TermMade (S.meaning store.old) (S.meaning store.new) columns.now literals term result }
 {
     match term {
@@ -141,7 +141,7 @@ pub fn term<S: FunctionStore>(
             let p = operand(store, columns, literals, first)?;
             let q = operand(store, columns, literals, second)?;
             let e = first_carry(store, literals, carry)?;
-            add_columns(store, columns.slices, &p, &q, e)
+            add_columns(store, &p, &q, e)
         }
     }
 }
@@ -155,18 +155,12 @@ pub fn new_columns<S: FunctionStore>(
 ) -> Result<Columns, StoreFault>
     requires order { S.ordered store.old }
     ensures order { S.ordered store.new }
-    ensures slices { Sliced columns.now.slices result }
+    ensures slices { Sliced (length columns.now.a) result }
     ensures made { NewColumnsMade (S.meaning store.old) (S.meaning store.new) columns.now literals recipe result }
 {
     let a = term(store, columns, literals, recipe.term(Component::A))?;
     let b = term(store, columns, literals, recipe.term(Component::B))?;
     let c = term(store, columns, literals, recipe.term(Component::C))?;
     let d = term(store, columns, literals, recipe.term(Component::D))?;
-    Ok(Columns {
-        slices: columns.slices,
-        a,
-        b,
-        c,
-        d,
-    })
+    Ok(Columns { a, b, c, d })
 }

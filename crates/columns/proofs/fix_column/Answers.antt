@@ -1,23 +1,16 @@
-use Rattle.std.proofs.Common.{refl, ◌∙◌, arith, rules}
-use Rattle.std.proofs.lemmas.List.{length-set}
-use Rattle.std.proofs.lemmas.Result.{err_from_is_err_and}
+use Rattle.std.proofs.Common.{rules}
+use Rattle.std.proofs.lemmas.List.{length_push}
 use Rattle.columns.proofs.Fixing.{fixing_none, fixing_more, fixing_stopped, fixing_done}
 use Rattle.columns.proofs.fix_column.Goals as goal
 
-pub loop-i-init : goal.loop-i-init
-loop-i-init g c = (c.requires.order, fixing_none _ _ _ _ _ _, refl)
+pub loop-slice-init : goal.loop-slice-init
+loop-slice-init g c = search (rules, fixing_none)
 
-pub returns-in_err-handles : goal.returns-in_err-handles
-returns-in_err-handles g c =
-    let p = err_from_is_err_and c.from_residual.result c.from_residual.ensures.1 in
-    record { order = c.fixed.ensures.order; fixed = rw (p.1, p.2) (fixing_stopped _ _ _ _ _ _ _ _ _ (search rules) (omega arith) c.loop-i.invariant.1 _ c.in_err-handles.ensures.made) }
+pub returns-in_err-fixed-clause-fixed : goal.returns-in_err-fixed-clause-fixed
+returns-in_err-fixed-clause-fixed g c = search (rules, fixing_stopped)
 
-pub loop-i-preserved : goal.loop-i-preserved
-loop-i-preserved g c = (
-  c.fixed.ensures.order,
-  fixing_more _ _ _ _ _ _ _ _ _ (search rules) (omega arith) c.loop-i.invariant.1 _ (omega (arith, c.loop-i.invariant.2, c.requires.few)) c.in_ok-handles.ensures.made,
-  length-set c.loop-i.handles _ _ ∙ c.loop-i.invariant.2,
-)
+pub loop-slice-preserved : goal.loop-slice-preserved
+loop-slice-preserved g c = search (rules, fixing_more, length_push)
 
-pub returns : goal.returns
-returns g c = record { order = c.loop-i.invariant.0; fixed = fixing_done _ _ _ _ _ _ _ _ (search rules) (omega arith) c.loop-i.invariant.1 }
+pub returns-clause-fixed : goal.returns-clause-fixed
+returns-clause-fixed g c = search (rules, fixing_done)

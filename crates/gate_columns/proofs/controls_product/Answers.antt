@@ -1,24 +1,18 @@
-use Rattle.std.proofs.lemmas.Result.{err_from_is_err_and}
+use Rattle.std.proofs.Common.{rules}
 use Rattle.gate_columns.proofs.Naming.{no_controls, one_control, two_stopped_first, two_stopped_second, two_controls}
 use Rattle.gate_columns.proofs.controls_product.Goals as goal
 
-pub returns-in_err-first-in-Three : goal.returns-in_err-first-in-Three
-returns-in_err-first-in-Three g c =
-    let p = err_from_is_err_and c.from_residual.result c.from_residual.ensures.1 in
-    let v = g.S.FunctionStore.meaning c.args.store.now in
-    record { order = c.literal-in-Three.ensures.order; made = rw (c.in-Three.is, p.1, p.2) (two_stopped_first v _ v v _ _ _ _ c.in_err-first-in-Three.ensures.made) }
+pub returns-in_err-first-in-Three-clause-made : goal.returns-in_err-first-in-Three-clause-made
+returns-in_err-first-in-Three-clause-made g c = search (rules, two_stopped_first)
 
-pub returns-in_err-second-in-Three : goal.returns-in_err-second-in-Three
-returns-in_err-second-in-Three g c =
-    let p = err_from_is_err_and c.from_residual-in_err-second-in-Three.result c.from_residual-in_err-second-in-Three.ensures.1 in
-    let v = g.S.FunctionStore.meaning c.args.store.now in
-    record { order = c.literal-in-Three-2.ensures.order; made = rw (c.in-Three.is, p.1, p.2) (two_stopped_second v _ _ v _ _ _ _ c.in_ok-first-in-Three.ensures.made _ c.in_err-second-in-Three.ensures.made) }
+pub returns-in_err-second-in-Three-clause-made : goal.returns-in_err-second-in-Three-clause-made
+returns-in_err-second-in-Three-clause-made g c = search (rules, two_stopped_second)
 
-pub returns-in-One : goal.returns-in-One
-returns-in-One g c = record { order = c.requires.order; made = rw c.in-One.is (no_controls _ _) }
+pub returns-in-One-clause-made : goal.returns-in-One-clause-made
+returns-in-One-clause-made g c = search (rules, no_controls)
 
-pub returns-in-Two : goal.returns-in-Two
-returns-in-Two g c = record { order = c.literal.ensures.order; made = rw c.in-Two.is (one_control _ _ _ _ _ c.literal.ensures.made) }
+pub returns-in-Two-clause-made : goal.returns-in-Two-clause-made
+returns-in-Two-clause-made g c = search (rules, one_control)
 
-pub returns-in_ok-second-in-Three : goal.returns-in_ok-second-in-Three
-returns-in_ok-second-in-Three g c = record { order = c.combine.ensures.order; made = rw c.in-Three.is (two_controls _ _ _ _ _ _ _ _ c.in_ok-first-in-Three.ensures.made _ c.in_ok-second-in-Three.ensures.made _ c.combine.ensures.made) }
+pub returns-in_ok-second-in-Three-clause-made : goal.returns-in_ok-second-in-Three-clause-made
+returns-in_ok-second-in-Three-clause-made g c = search (rules, two_controls)

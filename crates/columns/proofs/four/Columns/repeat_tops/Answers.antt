@@ -1,6 +1,9 @@
-use Rattle.std.proofs.Common.{refl, arith, rules}
-use Rattle.columns.proofs.Repeating.{tops_repeated}
+use Rattle.std.proofs.Common.{rules}
+use Rattle.columns.proofs.Repeating.{tops_repeated, level_tops}
 use Rattle.columns.proofs.four.Columns.repeat_tops.Goals as goal
 
+pub invariant_of-result : goal.invariant_of-result
+invariant_of-result c = search (rules, level_tops)
+
 pub returns : goal.returns
-returns c = tops_repeated _ _ (omega arith) refl (search rules) (search rules) (search rules) (search rules) c.repeat_top.ensures c.repeat_top-2.ensures c.repeat_top-3.ensures c.repeat_top-4.ensures
+returns c = search (rules, tops_repeated)
