@@ -11,17 +11,11 @@ use Rattle.slicing.specs.Columns.{Column}
 use Rattle.slicing.specs.Columns.{Columns as Four}
 use Rattle.slicing.specs.Trimming.{trimmed_width, trimmed}
 use Rattle.columns.specs.declared.four.Columns.{Columns}
+use Rattle.columns.proofs.Standing.{as_many}
 use Rattle.columns.specs.Columns.{handles_of, AllStand}
 use Rattle.records.specs.declared.record.Record.{Record}
 use Rattle.records.specs.declared.excess.Excess.TheVariants.{Power, Width}
 use Rattle.records.specs.Records.{recorded, RecordStands, LeastWidth, places, CutTo, ColumnsTrimmed, Widened}
-
--- all four columns have the same number of slices
-pub each_length : (hs : Columns) (k : Component) → length (handles_of hs k) ≡ length hs.a
-each_length hs A = refl
-each_length hs B = hs.level.0
-each_length hs C = hs.level.1
-each_length hs D = hs.level.2
 
 -- fewer handles stand for fewer slices
 stands_fewer : (v : Meaning) (w : ℕ) (hs : List ℕ) (ss : Column) → StandFor v hs ss → StandFor v (take w hs) (take w ss)
@@ -41,8 +35,7 @@ pub cut_stands : (v : Meaning) (hs : Columns) (power : RootTwoPower) (width : Sl
     → RecordStands v r (λ k. take width.0 (x k))
 unfolding AllStand RecordStands
 cut_stands v hs power width r x l c h k =
-    let e = each_length hs k in
-    rw (c.lowest k, lowest_places width.0 (handles_of hs k) (omega (arith, l, e))) (stands_fewer v width.0 (handles_of hs k) (x k) (h k))
+    rw (c.lowest k, lowest_places width.0 (handles_of hs k) (omega (arith, l, as_many hs k))) (stands_fewer v width.0 (handles_of hs k) (x k) (h k))
 
 module _ (hs : Columns) (power : RootTwoPower) (width : SliceCount) (few : width.0 ≤ length hs.a) (least : LeastWidth hs width.0) where
   pub trimmed_high : 40 < power.0 → ColumnsTrimmed hs power.0 (Err (Power power))

@@ -13,7 +13,7 @@ use Rattle.columns.specs.declared.four.Columns.{Columns}
 use Rattle.columns.specs.Columns.{handles_of, AllStand}
 use Rattle.columns.proofs.Comparing.{same_by_handles}
 use Rattle.records.specs.Records.{same_handles, all_same_handles, LeastWidth}
-use Rattle.records.proofs.Recording.{each_length}
+use Rattle.columns.proofs.Standing.{as_many}
 
 -- handles tell whether two slices are equal
 same_next_by_handles : (v : Meaning) → Laws v → (hs : List ℕ) (ss : Column) (j : ℕ) → j + 1 < length hs → StandFor v hs ss → same_handles hs j ≡ same_next ss j
@@ -29,7 +29,7 @@ all_same_by_handles v laws hs x j l h =
     ap₂ ◌&&◌ (at A) (ap₂ ◌&&◌ (at B) (ap₂ ◌&&◌ (at C) (at D)))
   where
     at : (k : Component) → same_handles (handles_of hs k) j ≡ same_next (x k) j
-    at k = let e = each_length hs k in same_next_by_handles v laws (handles_of hs k) (x k) j (omega (arith, l, e)) (h k)
+    at k = same_next_by_handles v laws (handles_of hs k) (x k) j (omega (arith, l, as_many hs k)) (h k)
 
 width_falls : (x : Four) (w : ℕ) → 1 < w → all_same_next x (w - 1 - 1) ≡ true → trimmed_width x w ≡ trimmed_width x (w - 1)
 unfolding trimmed_width

@@ -16,21 +16,14 @@ use Rattle.slicing.specs.Columns.{Columns as Four}
 use Rattle.slicing.specs.Divisions.{lowest_odd_sum, odd_a_c, odd_b_d, divisible}
 use Rattle.columns.specs.declared.four.Columns.{Columns}
 use Rattle.columns.specs.Columns.{handles_of, AllStand}
-use Rattle.columns.proofs.Standing.{all_keep}
+use Rattle.columns.proofs.Standing.{as_many, all_keep}
 use Rattle.columns.proofs.Comparing.{same_by_handles}
 use Rattle.reductions.specs.Reductions.{AskedDivisible}
-
--- every column has a lowest slice
-some_slices : (hs : Columns) (k : Component) → 0 < length (handles_of hs k)
-some_slices hs A = hs.some
-some_slices hs B = omega (arith, hs.some, hs.level.0)
-some_slices hs C = omega (arith, hs.some, hs.level.1)
-some_slices hs D = omega (arith, hs.some, hs.level.2)
 
 -- the handle of a lowest slice
 lowest : (v : Meaning) (hs : Columns) (x : Four) → AllStand v hs x → (k : Component) → under v (get_or (handles_of hs k) 0 0) ≡ Some (get_or (x k) 0 [])
 unfolding AllStand
-lowest v hs x h k = stand_for_at v (handles_of hs k) (x k) 0 (h k) (some_slices hs k)
+lowest v hs x h k = stand_for_at v (handles_of hs k) (x k) 0 (h k) (omega (arith, hs.some, as_many hs k))
 
 -- the odd sum of two lowest slices, in a store with the setting of v
 odd_sum_made : (v u w : Meaning) (fs : List Table) (hs : Columns) (k j : Component) (r : Result ℕ StoreFault) → Grew v u fs → Made u w (combine_asked u 150 (get_or (handles_of hs k) 0 0) (get_or (handles_of hs j) 0 0) 0) r
