@@ -73,7 +73,7 @@ cut_to hs power width r p w a b c d = record { powered = p; wide = w; lowest = l
     lowest D = d
 
 pub widened : (r : Record) (hs : Columns) → hs.a ≡ r.a → hs.b ≡ r.b → hs.c ≡ r.c → hs.d ≡ r.d → Widened r hs
-widened r hs a b c d = record { handles = handles }
+widened r hs a b c d = record { slices = ap length a; handles = handles }
   where
     handles : (k : Component) → handles_of hs k ≡ recorded r k
     handles A = a

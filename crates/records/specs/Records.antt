@@ -63,4 +63,5 @@ ColumnsTrimmed hs k r = (v : Meaning) (x : Four) → Laws v → AllStand v hs x 
 
 -- columns with the handles of a record
 pub record Widened (r : Record) (hs : Columns) : Type 0 where
+  pub slices : length hs.a ≡ length r.a
   pub handles : (k : Component) → handles_of hs k ≡ recorded r k
