@@ -1,13 +1,12 @@
 -- Records of states, compared.
-use Rattle.std.proofs.Common.{◌≡◌, ℕ, ◌-◌, ◌^◌, true, ◌&&◌, eqb, List, [], ◌∷◌, ◌++◌, map, length, take, drop, replicate, Some, sym, refl, ap, ◌∙◌, ap₂, arith, eq-eqb}
+use Rattle.std.proofs.Common.{◌≡◌, ℕ, ◌^◌, List, [], ◌∷◌, map, length, Some, sym, refl, ap, ◌∙◌, ap₂, arith}
 use Rattle.exact.specs.declared.Quadruple.{Quadruple}
 use Rattle.exact.specs.declared.RootTwoPower.{RootTwoPower}
-use Rattle.exact.specs.States.{State, root_two_power, width}
+use Rattle.exact.specs.States.{State, root_two_power}
 use Rattle.functions.specs.Tables.{Table}
 use Rattle.functions.specs.Meanings.{Meaning, Laws, qubits_of, under}
 use Rattle.functions.specs.Growth.{StandFor}
 use Rattle.slicing.specs.declared.Component.{Component}
-use Rattle.slicing.specs.declared.Component.TheVariants.{A, B, C, D}
 use Rattle.recipes.specs.Plans.{columns_of_state}
 use Rattle.recipes.proofs.Applied.{same_state}
 use Rattle.records.specs.declared.record.Record.{Record}

@@ -1,26 +1,16 @@
-use Rattle.std.proofs.Common.{◌≡◌, suc, ◌+◌, length, ap, ◌∙◌}
+use Rattle.std.proofs.Common.{◌≡◌, suc, ◌+◌, length, ap, ◌∙◌, rules}
 use Rattle.exact.specs.declared.RootTwoPower.{RootTwoPower}
-use Rattle.std.proofs.lemmas.Result.{err_from_is_err_and}
 use Rattle.gate_records.proofs.Applying.{apply_stopped_literals, apply_stopped_columns, apply_stopped_reduction, apply_done, on_state}
 use Rattle.gate_records.proofs.apply.Goals as goal
 
 pub returns-in_err-literals-clause-applied : goal.returns-in_err-literals-clause-applied
-returns-in_err-literals-clause-applied g c =
-    let p = err_from_is_err_and c.from_residual.result c.from_residual.ensures.1 in
-    let v = g.S.FunctionStore.meaning c.args.store.now in
-    rw (p.1, p.2) (on_state _ _ _ _ _ _ (apply_stopped_literals v _ v v _ _ _ _ c.in_err-literals.ensures.made))
+returns-in_err-literals-clause-applied g c = search (rules, on_state, apply_stopped_literals)
 
 pub returns-in_err-columns-clause-applied : goal.returns-in_err-columns-clause-applied
-returns-in_err-columns-clause-applied g c =
-    let p = err_from_is_err_and c.from_residual-in_err-columns.result c.from_residual-in_err-columns.ensures.1 in
-    let v = g.S.FunctionStore.meaning c.args.store.now in
-    rw (p.1, p.2) (on_state _ _ _ _ _ _ (apply_stopped_columns v _ _ v _ _ _ _ c.in_ok-literals.ensures.made _ _ c.columns.ensures c.repeat_tops-repeated.ensures _ c.of.ensures _ c.in_err-columns.ensures.made))
+returns-in_err-columns-clause-applied g c = search (rules, on_state, apply_stopped_columns)
 
 pub returns-in_err-normal-clause-applied : goal.returns-in_err-normal-clause-applied
-returns-in_err-normal-clause-applied g c =
-    let p = err_from_is_err_and c.from_residual-in_err-normal.result c.from_residual-in_err-normal.ensures.1 in
-    rw (p.1, p.2) (on_state _ _ _ _ _ _ (apply_stopped_reduction _ _ _ _ _ _ _ _ c.in_ok-literals.ensures.made _ _ c.columns.ensures c.repeat_tops-repeated.ensures _ c.of.ensures
-    _ c.in_ok-columns.ensures.made _ (ap (λ (k : RootTwoPower). k.0 + c.args.old.now.power.0) c.gate_power.ensures.is) _ c.in_err-normal.ensures.reduced))
+returns-in_err-normal-clause-applied g c = search (rules, on_state, apply_stopped_reduction)
 
 pub returns-clause-applied : goal.returns-clause-applied
 returns-clause-applied g c =

@@ -1,8 +1,0 @@
-use Rattle.gate_records.proofs.Opening.{narrowed_to_1, narrowed_to_0}
-use Rattle.gate_records.proofs.narrow.Goals as goal
-
-pub returns-then-bit-clause-narrowed : goal.returns-then-bit-clause-narrowed
-returns-then-bit-clause-narrowed g c = rw c.if-bit.true (narrowed_to_1 _ _ _ _ _ c.combine.ensures.made)
-
-pub returns-else-bit-clause-narrowed : goal.returns-else-bit-clause-narrowed
-returns-else-bit-clause-narrowed g c = rw c.if-bit.false (narrowed_to_0 _ _ _ _ _ c.combine-else-bit.ensures.made)
