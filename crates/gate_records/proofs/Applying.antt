@@ -1,12 +1,12 @@
 -- A gate on a record, from what its steps answered.
-use Rattle.std.proofs.Common.{◌≡◌, ℕ, suc, ◌<◌, ◌≤◌, List, [], ◌∷◌, ◌++◌, Ok, Err, Result, sym, ap, ◌∙◌, subst}
+use Rattle.std.proofs.Common.{◌≡◌, ℕ, suc, ◌<◌, ◌≤◌, List, [], ◌∷◌, ◌++◌, length, Ok, Err, Result, sym, ap, ◌∙◌, subst}
 use Rattle.exact.specs.Indices.{Below}
 use Rattle.exact.specs.States.{State, normal_form, width}
 use Rattle.exact.proofs.Widths.{at_least_one}
 use Rattle.functions.specs.declared.faults.StoreFault.{StoreFault}
 use Rattle.functions.specs.Tables.{Table, literal}
 use Rattle.functions.specs.Meanings.{Setting, Meaning, Laws, qubits_of}
-use Rattle.functions.specs.Growth.{Grew, Stopped, Built}
+use Rattle.functions.specs.Growth.{Grew, Stopped, Built, StandFor}
 use Rattle.functions.proofs.Growth.{grew_then, stopped_after, stopped_before}
 use Rattle.gates.specs.declared.Gate.{Gate}
 use Rattle.matrices.specs.Registers.{moved}
@@ -22,7 +22,7 @@ use Rattle.recipes.specs.Recipes.{gate_term, recipe_of, term_of, target, control
 use Rattle.recipes.specs.Plans.{columns_of_state, literals_plan, term_plan, move_plan, gate_plan}
 use Rattle.recipes.proofs.Applied.{state_stands, moved_power_is, moved_width, moved_columns_are}
 use Rattle.columns.specs.declared.four.Columns.{Columns}
-use Rattle.columns.specs.Columns.{handles_of, Stands, AllStand, TopsRepeated}
+use Rattle.columns.specs.Columns.{handles_of, AllStand, TopsRepeated}
 use Rattle.columns.proofs.Standing.{all_keep}
 use Rattle.columns.proofs.InTurn.{for_each_then}
 use Rattle.gate_columns.specs.declared.qubits.GateQubits.{GateQubits}
@@ -43,7 +43,7 @@ unfoldable pub OnColumns : Meaning → Meaning → Gate → GateQubits → Recor
 OnColumns v w gate qs old r =
     (x : Four) → RecordStands v old x → Below (qubits_of v) (listed qs)
     → Built v w (move_plan (qubits_of v) (move gate qs) old.power.0 x) r
-    (TrimmedTo w (moved_power (qubits_of v) (move gate qs) old.power.0 x) (suc old.width.0) (moved_columns (qubits_of v) (move gate qs) old.power.0 x))
+    (TrimmedTo w (moved_power (qubits_of v) (move gate qs) old.power.0 x) (suc (length old.a)) (moved_columns (qubits_of v) (move gate qs) old.power.0 x))
 
 -- the parts of a move's plan
 abbrev literals_of : ℕ → GateQubits → List Table
@@ -65,7 +65,7 @@ built_weaker P Q v w fs (Ok x) f h = (h.0, f x h.1)
 built_weaker P Q v w fs (Err e) f h = h
 
 -- the terms of a gate's recipe are those of the table
-same_terms : (w : Meaning) (y : Columns) (n q : ℕ) (c : Table) (x : Four) (gate : Gate) → AllStand w y (λ j. term_column n q c x (term_of (recipe_of gate) j)) → (j : Component) → Stands w y.slices.0 (handles_of y j) (term_column n q c x (gate_term gate j))
+same_terms : (w : Meaning) (y : Columns) (n q : ℕ) (c : Table) (x : Four) (gate : Gate) → AllStand w y (λ j. term_column n q c x (term_of (recipe_of gate) j)) → (j : Component) → StandFor w (handles_of y j) (term_column n q c x (gate_term gate j))
 unfolding AllStand
 same_terms w y n q c x gate h A = h A
 same_terms w y n q c x gate h B = h B
@@ -138,7 +138,7 @@ module _ (v w₁ w₂ w₃ : Meaning) (gate : Gate) (qs : GateQubits) (old : Rec
           subst (λ (l : List Table). Stopped v w₃ l e) (plan_is (qubits_of v) gate qs old.power.0 x)
           (stopped_after (literals_of (qubits_of v) qs) _ (named b).0 (stopped_after (for_each (terms_of (qubits_of v) gate qs x) []) _ (columns_made x h b).0 (reduced_made (Err e) m x h b)))
 
-      pub apply_done : (y : Reduced) → ColumnsReduced w₂ w₃ hs k (Ok y) → Laws w₃ → y.columns.slices.0 ≡ suc old.width.0 → (a : Result Record Excess) → ColumnsTrimmed y.columns y.power.0 a → OnColumns v w₃ gate qs old (Ok a)
+      pub apply_done : (y : Reduced) → ColumnsReduced w₂ w₃ hs k (Ok y) → Laws w₃ → length y.columns.a ≡ suc (length old.a) → (a : Result Record Excess) → ColumnsTrimmed y.columns y.power.0 a → OnColumns v w₃ gate qs old (Ok a)
       unfolding OnColumns Built ColumnsTrimmed moved_columns moved_power
       apply_done y m laws es a t x h b =
           let n = qubits_of v in
@@ -146,10 +146,10 @@ module _ (v w₁ w₂ w₃ : Meaning) (gate : Gate) (qs : GateQubits) (old : Rec
           let j : ℕ = power_after (move gate qs) old.power.0 in
           let d : Grew w₂ w₃ (rest_of n gate qs old.power.0 x) × ReducedTo w₃ n j z y = reduced_made (Ok y) m x h b in
           let g : Grew v w₃ (literals_of n qs ++ (for_each (terms_of n gate qs x) [] ++ rest_of n gate qs old.power.0 x)) = grew_then (literals_of n qs) _ (named b).0 (grew_then (for_each (terms_of n gate qs x) []) _ (columns_made x h b).0 d.0) in
-          let e : TrimmedTo w₃ y.power.0 y.columns.slices.0 (reduced_columns n j z) a = t w₃ (reduced_columns n j z) laws d.1.stand in (
+          let e : TrimmedTo w₃ y.power.0 (length y.columns.a) (reduced_columns n j z) a = t w₃ (reduced_columns n j z) laws d.1.stand in (
             subst (λ (l : List Table). Grew v w₃ l) (plan_is n gate qs old.power.0 x) g,
             subst (λ (count : ℕ). TrimmedTo w₃ (reduced_power n j z) count (reduced_columns n j z) a) es
-                (subst (λ (p : ℕ). TrimmedTo w₃ p y.columns.slices.0 (reduced_columns n j z) a) d.1.power e),
+                (subst (λ (p : ℕ). TrimmedTo w₃ p (length y.columns.a) (reduced_columns n j z) a) d.1.power e),
           )
 
 -- ---- on the record of a state
@@ -160,7 +160,7 @@ unfolding RecordStands
 as_state w k count x t n en ek ew ec (Ok r) h = record {
   powered = h.powered ∙ ek;
   wide = h.wide ∙ ew;
-  stand = λ c. subst (λ (ss : Column). Stands w r.width.0 (recorded r c) ss) (ec c ∙ ap (λ (m : ℕ). columns_of_state m t c) en) (h.stand c);
+  stand = λ c. subst (λ (ss : Column). StandFor w (recorded r c) ss) (ec c ∙ ap (λ (m : ℕ). columns_of_state m t c) en) (h.stand c);
 }
 as_state w k count x t n en ek ew ec (Err (Power p)) h = (h.0 ∙ ek, subst (λ (j : ℕ). 40 < j) ek h.1)
 as_state w k count x t n en ek ew ec (Err (Width u)) h = (h.0 ∙ ew, subst (λ (j : ℕ). j ≤ 40) ek h.1, subst (λ (j : ℕ). 22 < j) ew h.2)
@@ -174,7 +174,7 @@ by_state v w gate qs old r m s of b =
     let n = qubits_of v in
     let x : Four = columns_of_state n s in
     subst (λ (u : ℕ). Built v w (move_plan n (move gate qs) s.power.0 x) r (TrimmedTo w (moved_power n (move gate qs) s.power.0 x) (suc u) (moved_columns n (move gate qs) s.power.0 x))) of.wide
-    (subst (λ (k : ℕ). Built v w (move_plan n (move gate qs) k x) r (TrimmedTo w (moved_power n (move gate qs) k x) (suc old.width.0) (moved_columns n (move gate qs) k x))) of.powered
+    (subst (λ (k : ℕ). Built v w (move_plan n (move gate qs) k x) r (TrimmedTo w (moved_power n (move gate qs) k x) (suc (length old.a)) (moved_columns n (move gate qs) k x))) of.powered
     (m x of.stand b))
 
 pub on_state : (v w : Meaning) (gate : Gate) (qs : GateQubits) (old : Record) (r : Result (Result Record Excess) StoreFault) → OnColumns v w gate qs old r → GateApplied v w gate qs old r

@@ -1,8 +1,6 @@
 -- The loop of an opening: what was made, and that what is left gives the whole.
-use Rattle.std.proofs.Common.{◌≡◌, ℕ, suc, ◌+◌, ◌-◌, ◌/◌, ◌%◌, ◌^◌, ◌<◌, ◌≤◌, Bool, true, false, eqb, List, [], ◌∷◌, ◌++◌, length, take, set, replicate, Some, Ok, Err, Option, Result, sym, refl, ap, ◌∙◌, subst, append_assoc, arith, shr-shr}
+use Rattle.std.proofs.Common.{◌≡◌, ℕ, suc, ◌+◌, ◌-◌, ◌/◌, ◌%◌, ◌^◌, ◌<◌, ◌≤◌, Bool, true, false, eqb, List, [], ◌∷◌, ◌++◌, length, replicate, Some, Ok, Err, Option, Result, sym, refl, ap, ◌∙◌, subst, append_assoc, arith, shr-shr}
 use Rattle.std.proofs.lemmas.List.{append-nil}
-use Rattle.exact.specs.declared.RootTwoPower.{RootTwoPower}
-use Rattle.exact.specs.declared.SliceCount.{SliceCount}
 use Rattle.exact.specs.Indices.{Index, bits, bit}
 use Rattle.exact.proofs.Tables.{length_bits, highest_first}
 use Rattle.functions.specs.declared.faults.StoreFault.{StoreFault}
@@ -20,12 +18,9 @@ use Rattle.slicing.specs.declared.Component.TheVariants.{A, B, C, D}
 use Rattle.slicing.specs.Operations.{zero_column}
 use Rattle.recipes.specs.Plans.{columns_of_state, narrowed, opening_from, product_from, opening_plan, opening_product, opened_columns}
 use Rattle.recipes.proofs.Openings.{opened_width, opened_columns_are}
-use Rattle.columns.specs.declared.four.Columns.{Columns}
-use Rattle.columns.specs.Columns.{handles_of, Stands, AllStand}
 use Rattle.columns.proofs.Making.{literal_made}
 use Rattle.records.specs.declared.record.Record.{Record}
-use Rattle.records.specs.Records.{recorded, RecordStands, CutTo}
-use Rattle.records.proofs.Recording.{cut_stands}
+use Rattle.records.specs.Records.{recorded, RecordStands}
 use Rattle.gate_records.specs.Moves.{Narrowed, ProductMade, RegisterOpened}
 
 -- ---- one factor
@@ -163,12 +158,12 @@ pub open_stopped : (v w : Meaning) (i : ℕ) (e : StoreFault) → ProductMade v 
 unfolding ProductMade RegisterOpened Built
 open_stopped v w i e m = m
 
-zeros_stand : (v : Meaning) (n : ℕ) → n ≡ qubits_of v → Stands v 2 (replicate 24 0) (zero_column n 2)
-unfolding Stands StandFor zero_column under
+zeros_stand : (v : Meaning) (n : ℕ) → n ≡ qubits_of v → StandFor v (replicate 2 0) (zero_column n 2)
+unfolding StandFor zero_column under
 zeros_stand v n e = ap (λ (m : ℕ). Some (constant m false) ∷ (Some (constant m false) ∷ [])) (sym e)
 
-product_stands : (v : Meaning) (n h : ℕ) (f : Table) → n ≡ qubits_of v → under v h ≡ Some f → Stands v 2 (set (replicate 24 0) 0 h) (f ∷ (constant n false ∷ []))
-unfolding Stands StandFor
+product_stands : (v : Meaning) (n h : ℕ) (f : Table) → n ≡ qubits_of v → under v h ≡ Some f → StandFor v (h ∷ (0 ∷ [])) (f ∷ (constant n false ∷ []))
+unfolding StandFor
 product_stands v n h f e k =
     ap (λ (o : Option Table). o ∷ (under v 0 ∷ [])) k ∙ ap (λ (o : Option Table). Some f ∷ (o ∷ [])) (under_0 v ∙ ap (λ (m : ℕ). Some (constant m false)) (sym e))
 
@@ -176,16 +171,8 @@ opened_power : (n : ℕ) (x : Index) → 0 ≡ (opened n x).power.0
 unfolding opened
 opened_power n x = refl
 
--- the columns of an opened register have two slices
-two_slices : (n : ℕ) (x : Index) (k : Component) → take 2 (opened_columns n x k) ≡ opened_columns n x k
-unfolding zero_column
-two_slices n x A = refl
-two_slices n x B = refl
-two_slices n x C = refl
-two_slices n x D = refl
-
-module _ (v w : Meaning) (i h : ℕ) (m : ProductMade v w i (Ok h)) (hs : Columns) (es : hs.slices.0 ≡ 2)
-    (ea : hs.a ≡ replicate 24 0) (eb : hs.b ≡ replicate 24 0) (ec : hs.c ≡ replicate 24 0) (ed : hs.d ≡ set (replicate 24 0) 0 h) where
+module _ (v w : Meaning) (i h : ℕ) (m : ProductMade v w i (Ok h)) (r : Record) (zero_power : r.power.0 ≡ 0)
+    (ea : r.a ≡ replicate 2 0) (eb : r.b ≡ replicate 2 0) (ec : r.c ≡ replicate 2 0) (ed : r.d ≡ h ∷ (0 ∷ [])) where
   product : Grew v w (opening_plan (qubits_of v) (bits (qubits_of v) i)) × (under w h ≡ Some (opening_product (qubits_of v) (bits (qubits_of v) i)))
   unfolding ProductMade Built
   product = m
@@ -193,28 +180,27 @@ module _ (v w : Meaning) (i h : ℕ) (m : ProductMade v w i (Ok h)) (hs : Column
   same : qubits_of v ≡ qubits_of w
   same = ap (λ (s : Setting). s.qubits) (sym product.0.setting)
 
-  two_stand : (k : Component) → Stands w 2 (handles_of hs k) (opened_columns (qubits_of v) (bits (qubits_of v) i) k)
-  two_stand A = subst (λ (l : List ℕ). Stands w 2 l (zero_column (qubits_of v) 2)) (sym ea) (zeros_stand w (qubits_of v) same)
-  two_stand B = subst (λ (l : List ℕ). Stands w 2 l (zero_column (qubits_of v) 2)) (sym eb) (zeros_stand w (qubits_of v) same)
-  two_stand C = subst (λ (l : List ℕ). Stands w 2 l (zero_column (qubits_of v) 2)) (sym ec) (zeros_stand w (qubits_of v) same)
-  two_stand D = subst (λ (l : List ℕ). Stands w 2 l (opened_columns (qubits_of v) (bits (qubits_of v) i) D)) (sym ed) (product_stands w (qubits_of v) h _ same product.1)
+  two_stand : (k : Component) → StandFor w (recorded r k) (opened_columns (qubits_of v) (bits (qubits_of v) i) k)
+  two_stand A = rw ea (zeros_stand w (qubits_of v) same)
+  two_stand B = rw eb (zeros_stand w (qubits_of v) same)
+  two_stand C = rw ec (zeros_stand w (qubits_of v) same)
+  two_stand D = rw ed (product_stands w (qubits_of v) h _ same product.1)
 
-  all_stand : AllStand w hs (opened_columns (qubits_of v) (bits (qubits_of v) i))
-  unfolding AllStand
-  all_stand k = subst (λ (c : ℕ). Stands w c (handles_of hs k) (opened_columns (qubits_of v) (bits (qubits_of v) i) k)) (sym es) (two_stand k)
-
-  pub open_done : (r : Record) → CutTo hs (record { 0 = 0 }) (record { 0 = 2 }) r → RegisterOpened v w i (Ok r)
+  pub open_done : RegisterOpened v w i (Ok r)
   unfolding RegisterOpened Built RecordStands
-  open_done r cut =
+  open_done =
       let n = qubits_of v in
       let x = bits n i in
-      let l : length x ≡ n = length_bits n i in
-      let cuts : (k : Component) → Stands w r.width.0 (recorded r k) (take 2 (opened_columns n x k)) = cut_stands w hs (record { 0 = 0 }) (record { 0 = 2 }) r (opened_columns n x) (let z : 2 ≤ hs.slices.0 = omega (arith, es) in z) cut all_stand in (
+      let l : length x ≡ n = length_bits n i in (
         product.0,
         record {
-          powered = ap (λ (p : RootTwoPower). p.0) cut.powered ∙ opened_power n x;
-          wide = ap (λ (s : SliceCount). s.0) cut.wide ∙ sym (opened_width n x l);
-          stand = λ k. subst (λ (c : List Table). Stands w r.width.0 (recorded r k) c)
-              (two_slices n x k ∙ opened_columns_are n x l k ∙ ap (λ (j : ℕ). columns_of_state j (opened n x) k) same) (cuts k);
+          powered = zero_power ∙ opened_power n x;
+          wide = ap length ea ∙ sym (opened_width n x l);
+          stand = λ k. subst (λ (c : List Table). StandFor w (recorded r k) c) (opened_columns_are n x l k ∙ ap (λ (j : ℕ). columns_of_state j (opened n x) k) same) (two_stand k);
         },
       )
+
+-- what narrowing and opening lead to
+pub ruleset narrowing_steps = (narrowed_to_1, narrowed_to_0)
+
+pub ruleset opening_steps = (open_stopped, open_done)

@@ -1,5 +1,5 @@
 -- What openings and gates make, and the states that their answers are records of.
-use Rattle.std.specs.Prelude.{◌≡◌, ℕ, ◌^◌, ◌<◌, ◌≤◌, Bool, [], ◌∷◌, length, Some, Ok, Err, Decides, Result}
+use Rattle.std.specs.Prelude.{◌≡◌, ℕ, ◌^◌, ◌<◌, ◌≤◌, Bool, [], ◌∷◌, length, Some, Ok, Err, ◌↔◌, Result}
 use Rattle.exact.specs.Indices.{bits}
 use Rattle.exact.specs.States.{State, normal_form, width}
 use Rattle.functions.specs.declared.faults.StoreFault.{StoreFault}
@@ -14,12 +14,12 @@ use Rattle.gate_columns.specs.Gates.{listed}
 use Rattle.records.specs.declared.record.Record.{Record}
 use Rattle.records.specs.declared.excess.Excess.{Excess}
 use Rattle.records.specs.declared.excess.Excess.TheVariants.{Power, Width}
-use Rattle.records.specs.Records.{RecordStands, same_record}
+use Rattle.records.specs.Records.{RecordStands}
 
 -- The record of a state: its power, its width, and handles of the slices of its columns at that width.
 pub record RecordOf (v : Meaning) (s : State) (r : Record) : Type 0 where
   pub powered : r.power.0 ≡ s.power.0
-  pub wide : r.width.0 ≡ width s.quadruples
+  pub wide : length r.a ≡ width s.quadruples
   pub stand : RecordStands v r (columns_of_state (qubits_of v) s)
 
 -- ---- openings
@@ -61,4 +61,4 @@ GateApplied v w gate qs old r =
 abbrev pub SameRecordLaws : Type 0
 SameRecordLaws =
     (v : Meaning) → Laws v → (s t : State) → length s.quadruples ≡ 2 ^ qubits_of v → length t.quadruples ≡ 2 ^ qubits_of v
-    → (x y : Record) → RecordOf v s x → RecordOf v t y → Decides (same_record x y) (s ≡ t)
+    → (x y : Record) → RecordOf v s x → RecordOf v t y → (x ≡ y) ↔ (s ≡ t)

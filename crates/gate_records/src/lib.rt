@@ -5,8 +5,9 @@ ghost use Rattle.std.specs.Prelude.{◌≡◌, ◌≤◌};
 ghost use Rattle.matrices.specs.Gates.{power_of};
 ghost use Rattle.gate_records.specs.Moves.{Narrowed, ProductMade, RegisterOpened, GateApplied, SameRecordLaws};
 
-use columns::Columns;
-use exact::{Qubit, RootTwoPower, SliceCount};
+use columns::Column;
+use exact::{Qubit, RootTwoPower};
+use functions::rules::CHOICE;
 use functions::{FunctionStore, StoreFault};
 use gate_columns::{GateQubits, literals, new_columns};
 use gates::Gate;
@@ -15,6 +16,7 @@ use records::{Excess, Record};
 use reductions::reduce;
 
 /// A product so far with a literal, or with its negative.
+#[tactic(auto, using(crate::proofs::Opening::narrowing_steps))]
 fn narrow<S: FunctionStore>(
     store: &mut S,
     product: u32,
@@ -26,9 +28,9 @@ fn narrow<S: FunctionStore>(
     ensures narrowed { Narrowed (S.meaning store.old) (S.meaning store.new) product literal bit result }
 {
     if bit {
-        store.combine(202, literal, product, 0)
+        store.combine(CHOICE, literal, product, 0)
     } else {
-        store.combine(202, literal, 0, product)
+        store.combine(CHOICE, literal, 0, product)
     }
 }
 
@@ -40,9 +42,7 @@ fn index_product<S: FunctionStore>(store: &mut S, index: u32) -> Result<u32, Sto
 {
     let mut product = 1;
     let mut rest = index;
-    let mut q = store.qubits();
-    while q > 0 {
-        q -= 1;
+    for q in (0..store.qubits()).rev() {
         let literal = store.literal(Qubit(q))?;
         product = narrow(store, product, literal, rest % 2 == 1)?;
         rest /= 2;
@@ -51,23 +51,21 @@ fn index_product<S: FunctionStore>(store: &mut S, index: u32) -> Result<u32, Sto
 }
 
 /// The record of a register opened at an index: the component d is 1 there, and all else is 0.
+#[tactic(auto, using(crate::proofs::Opening::opening_steps))]
 pub fn open_at<S: FunctionStore>(store: &mut S, index: u32) -> Result<Record, StoreFault>
     requires order { S.ordered store.old }
     ensures order { S.ordered store.new }
     ensures opened { RegisterOpened (S.meaning store.old) (S.meaning store.new) index result }
 {
     let product = index_product(store, index)?;
-    let zero = [0u32; 24];
-    let mut d = zero;
-    d[0] = product;
-    let columns = Columns {
-        slices: SliceCount(2),
+    let zero = Column::zeros(2);
+    Ok(Record {
+        power: RootTwoPower(0),
         a: zero,
         b: zero,
         c: zero,
-        d,
-    };
-    Ok(Record::cut(&columns, RootTwoPower(0), SliceCount(2)))
+        d: Column::from_slice(&[product, 0]),
+    })
 }
 
 /// How often a gate divides by √2.
@@ -101,6 +99,7 @@ pub fn apply<S: FunctionStore>(
 }
 
 /// In a store in order, the records of two states are equal exactly if the states are.
+#[tactic(auto, using(crate::proofs::Comparing::same_record_law))]
 pub fn same_record_laws()
     ensures { SameRecordLaws }
 {}

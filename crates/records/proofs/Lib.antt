@@ -1,3 +1,3 @@
-pub mod Places
-pub mod Widths
 pub mod Recording
+pub mod Widths
+pub mod Equality

@@ -1,15 +1,15 @@
 -- Records: which slices their handles stand for, and how they are made of columns.
-use Rattle.std.specs.Prelude.{◌≡◌, ℕ, ◌+◌, ◌<◌, ◌≤◌, Bool, ◌&&◌, List, take, Ok, Err, Result, ◌==◌, slice_index}
-use Rattle.std.specs.Str.{bytes_eq}
+use Rattle.std.specs.Prelude.{◌≡◌, ℕ, ◌+◌, ◌-◌, ◌<◌, ◌≤◌, Bool, ◌&&◌, List, ◌++◌, length, take, replicate, Ok, Err, Result, ◌==◌, slice_index}
 use Rattle.exact.specs.declared.RootTwoPower.{RootTwoPower}
 use Rattle.exact.specs.declared.SliceCount.{SliceCount}
 use Rattle.functions.specs.Meanings.{Meaning, Laws}
+use Rattle.functions.specs.Growth.{StandFor}
 use Rattle.slicing.specs.declared.Component.{Component}
 use Rattle.slicing.specs.declared.Component.TheVariants.{A, B, C, D}
 use Rattle.slicing.specs.Columns.{Columns as Four}
 use Rattle.slicing.specs.Trimming.{trimmed_width, trimmed}
 use Rattle.columns.specs.declared.four.Columns.{Columns}
-use Rattle.columns.specs.Columns.{handles_of, Stands, AllStand}
+use Rattle.columns.specs.Columns.{handles_of, AllStand}
 use Rattle.records.specs.declared.record.Record.{Record}
 use Rattle.records.specs.declared.excess.Excess.{Excess}
 use Rattle.records.specs.declared.excess.Excess.TheVariants.{Power, Width}
@@ -21,19 +21,9 @@ recorded r B = r.b
 recorded r C = r.c
 recorded r D = r.d
 
--- The handles of a record stand for the slices of x, as many as its width.
+-- The handles of a record stand for the slices of x.
 unfoldable pub RecordStands : Meaning → Record → Four → Type 0
-RecordStands v r x = (k : Component) → Stands v r.width.0 (recorded r k) (x k)
-
--- whether two lists of numbers are equal
-abbrev pub same_numbers : List ℕ → List ℕ → Bool
-same_numbers xs ys = bytes_eq xs ys
-
--- whether two records have the same power, width and handles
-abbrev pub same_record : Record → Record → Bool
-same_record r s =
-    (r.power.0 == s.power.0) && (r.width.0 == s.width.0
-    && (same_numbers r.a s.a && (same_numbers r.b s.b && (same_numbers r.c s.c && same_numbers r.d s.d))))
+RecordStands v r x = (k : Component) → StandFor v (recorded r k) (x k)
 
 -- whether slices j and j+1 of a column have the same handle, and whether they have in all four
 abbrev pub same_handles : List ℕ → ℕ → Bool
@@ -44,18 +34,22 @@ all_same_handles hs j = same_handles hs.a j && (same_handles hs.b j && (same_han
 
 -- In every store in order in which the handles stand for columns, it is the width to which they are trimmed.
 unfoldable pub LeastWidth : Columns → ℕ → Type 0
-LeastWidth hs w = (v : Meaning) (x : Four) → Laws v → AllStand v hs x → w ≡ trimmed_width x hs.slices.0
+LeastWidth hs w = (v : Meaning) (x : Four) → Laws v → AllStand v hs x → w ≡ trimmed_width x (length hs.a)
+
+-- the 24 places of a column: its handles, and then 0
+abbrev pub places : List ℕ → List ℕ
+places hs = hs ++ replicate (24 - length hs) 0
 
 -- the record of the lowest slices of columns
 pub record CutTo (hs : Columns) (power : RootTwoPower) (width : SliceCount) (r : Record) : Type 0 where
   pub powered : r.power ≡ power
-  pub wide : r.width ≡ width
-  pub lowest : (k : Component) → take width.0 (recorded r k) ≡ take width.0 (handles_of hs k)
+  pub wide : length r.a ≡ width.0
+  pub lowest : (k : Component) → recorded r k ≡ take width.0 (places (handles_of hs k))
 
 -- a record of columns of so many slices with the power k, trimmed
 pub record Recorded (v : Meaning) (k count : ℕ) (x : Four) (r : Record) : Type 0 where
   pub powered : r.power.0 ≡ k
-  pub wide : r.width.0 ≡ trimmed_width x count
+  pub wide : length r.a ≡ trimmed_width x count
   pub stand : RecordStands v r (trimmed count x)
 
 -- Columns are recorded, or their power is above 40, or else their width is above 22.
@@ -65,9 +59,9 @@ TrimmedTo v k count x (Err (Power p)) = (p.0 ≡ k) × (40 < k)
 TrimmedTo v k count x (Err (Width w)) = (w.0 ≡ trimmed_width x count) × (k ≤ 40) × (22 < trimmed_width x count)
 
 unfoldable pub ColumnsTrimmed : Columns → ℕ → Result Record Excess → Type 0
-ColumnsTrimmed hs k r = (v : Meaning) (x : Four) → Laws v → AllStand v hs x → TrimmedTo v k hs.slices.0 x r
+ColumnsTrimmed hs k r = (v : Meaning) (x : Four) → Laws v → AllStand v hs x → TrimmedTo v k (length hs.a) x r
 
 -- columns with the handles of a record
 pub record Widened (r : Record) (hs : Columns) : Type 0 where
-  pub slices : hs.slices ≡ r.width
-  pub handles : (k : Component) → take 22 (handles_of hs k) ≡ recorded r k
+  pub slices : length hs.a ≡ length r.a
+  pub handles : (k : Component) → handles_of hs k ≡ recorded r k

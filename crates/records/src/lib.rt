@@ -1,10 +1,10 @@
 //! Records of registers: columns trimmed to the least width, in fixed places.
 #![tactic(auto)]
 
-ghost use Rattle.std.specs.Prelude.{◌≡◌, ◌-◌, ◌<◌, ◌≤◌, take, drop, replicate};
-ghost use Rattle.records.specs.Records.{same_numbers, same_record, all_same_handles, LeastWidth, CutTo, ColumnsTrimmed, Widened};
+ghost use Rattle.std.specs.Prelude.{◌≡◌, ◌+◌, ◌<◌, ◌≤◌, length, take, Decides};
+ghost use Rattle.records.specs.Records.{same_handles, all_same_handles, LeastWidth, places, CutTo, ColumnsTrimmed, Widened};
 
-use columns::Columns;
+use columns::{Column, Columns};
 use exact::{RootTwoPower, SliceCount};
 
 mod excess;
@@ -13,66 +13,60 @@ mod record;
 pub use excess::Excess;
 pub use record::Record;
 
+/// Whether slices j and j + 1 of a column have the same handle.
+fn same_next(column: &Column<24>, j: usize) -> bool
+    requires { j + 1 < length column.now }
+    ensures { result ≡ same_handles column.now j }
+{
+    let slices = column.as_slice();
+    slices[j] == slices[j + 1]
+}
+
 /// Whether slices j and j + 1 have the same handle in all four columns.
 fn same_slices(columns: &Columns, j: usize) -> bool
-    requires { j < 23 }
+    requires { j + 1 < length columns.now.a }
     ensures { result ≡ all_same_handles columns.now j }
 {
-    columns.a[j] == columns.a[j + 1]
-        && columns.b[j] == columns.b[j + 1]
-        && columns.c[j] == columns.c[j + 1]
-        && columns.d[j] == columns.d[j + 1]
+    same_next(&columns.a, j)
+        && same_next(&columns.b, j)
+        && same_next(&columns.c, j)
+        && same_next(&columns.d, j)
 }
 
 /// The least width: while in all four columns the top slice equals the next, it goes.
+#[tactic(auto, using(crate::proofs::Widths::trimming_steps))]
 fn least_width(columns: &Columns) -> SliceCount
     ensures some { 1 ≤ result.0 }
-    ensures few { result.0 ≤ columns.now.slices.0 }
+    ensures few { result.0 ≤ length columns.now.a }
     ensures least { LeastWidth columns.now result.0 }
 {
-    let mut width = columns.slices.0;
-    while width > 1 {
-        if !same_slices(columns, width as usize - 2) {
-            return SliceCount(width);
+    for width in (1..columns.slices().0).rev() {
+        if !same_slices(columns, width as usize - 1) {
+            return SliceCount(width + 1);
         }
-        width -= 1;
     }
-    SliceCount(width)
+    SliceCount(1)
 }
 
-/// The lowest handles of a column, and 0 in the other places.
-fn lowest_handles(column: &[u32; 24], width: SliceCount) -> [u32; 22]
+/// The lowest handles of a column, as many as the width; past its slices, 0.
+fn lowest_handles(column: &Column<24>, width: SliceCount) -> Column<22>
     requires { width.0 ≤ 22 }
-    ensures first { take width.0 result ≡ take width.0 column.now }
-    ensures rest { drop width.0 result ≡ replicate (22 - width.0) 0 }
+    ensures { result ≡ take width.0 (places column.now) }
 {
-    let mut handles = [0u32; 22];
-    for i in 0..width.0 as usize {
-        handles[i] = column[i];
-    }
-    handles
+    let mut places = [0; 24];
+    places[..column.len()].copy_from_slice(column.as_slice());
+    Column::from_slice(&places[..width.0 as usize])
 }
 
-/// A column of 22 places in 24.
-fn widen(column: &[u32; 22]) -> [u32; 24]
-    ensures { take 22 result ≡ column.now }
+/// A column of at most 22 slices as one of at most 24.
+fn widen(column: &Column<22>) -> Column<24>
+    ensures { result ≡ column.now }
 {
-    let mut handles = [0u32; 24];
-    for i in 0..22 {
-        handles[i] = column[i];
-    }
-    handles
-}
-
-/// Whether two columns of places are equal.
-fn same_handles(first: &[u32; 22], second: &[u32; 22]) -> bool
-    ensures { result ≡ same_numbers first.now second.now }
-{
-    *first == *second
+    Column::from_slice(column.as_slice())
 }
 
 impl Record {
-    /// The record of the lowest slices of columns: every record is made here.
+    /// The record of the lowest slices of columns.
     pub fn cut(columns: &Columns, power: RootTwoPower, width: SliceCount) -> Record
         requires low { power.0 ≤ 40 }
         requires some { 1 ≤ width.0 }
@@ -81,7 +75,6 @@ impl Record {
     {
         Record {
             power,
-            width,
             a: lowest_handles(&columns.a, width),
             b: lowest_handles(&columns.b, width),
             c: lowest_handles(&columns.c, width),
@@ -90,6 +83,7 @@ impl Record {
     }
 
     /// The record of columns with a power, trimmed to the least width; or which of the two is too large.
+    #[tactic(auto, using(crate::proofs::Recording::recording_steps))]
     pub fn trimmed(columns: &Columns, power: RootTwoPower) -> Result<Record, Excess>
         ensures { ColumnsTrimmed columns.now power.0 result }
     {
@@ -105,14 +99,18 @@ impl Record {
 
     /// Whether two records are equal: power, width and every handle.
     pub fn same(&self, other: &Record) -> bool
-        ensures { result ≡ same_record self.now other.now }
+        ensures { Decides result (self.now ≡ other.now) }
     {
-        self.power.0 == other.power.0
-            && self.width.0 == other.width.0
-            && same_handles(&self.a, &other.a)
-            && same_handles(&self.b, &other.b)
-            && same_handles(&self.c, &other.c)
-            && same_handles(&self.d, &other.d)
+        self == other
+    }
+
+    /// The number of slices of each component.
+    pub fn width(&self) -> SliceCount
+        ensures value { result.0 ≡ length self.now.a }
+        ensures some { 1 ≤ result.0 }
+        ensures few { result.0 ≤ 22 }
+    {
+        SliceCount(self.a.len() as u32)
     }
 
     /// The record's columns.
@@ -120,7 +118,6 @@ impl Record {
         ensures { Widened self.now result }
     {
         Columns {
-            slices: self.width,
             a: widen(&self.a),
             b: widen(&self.b),
             c: widen(&self.c),

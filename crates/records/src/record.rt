@@ -1,20 +1,20 @@
 //! A register's record.
-ghost use Rattle.std.specs.Prelude.{◌≡◌, ◌-◌, ◌≤◌, drop, replicate};
+ghost use Rattle.std.specs.Prelude.{◌≡◌, ◌≤◌, length};
 
-use exact::{RootTwoPower, SliceCount};
+use columns::Column;
+use exact::RootTwoPower;
 
-/// A register's record: the power of √2, the width, and the handles of that many slices of each component, the lowest
-/// first. Unused places are 0, so that two records are equal if their power, width and slices are.
-#[derive(Clone, Copy)]
+/// A register's record: the power of √2, at most 40, and the handles of the slices of each component. All four columns have
+/// the same number of slices, from 1 to 22: the record's width.
+#[derive(Clone, Copy, PartialEq, Eq)]
 pub struct Record {
     pub power: RootTwoPower,
-    pub width: SliceCount,
-    pub a: [u32; 22],
-    pub b: [u32; 22],
-    pub c: [u32; 22],
-    pub d: [u32; 22],
+    pub a: Column<22>,
+    pub b: Column<22>,
+    pub c: Column<22>,
+    pub d: Column<22>,
     ghost low: { power.0 ≤ 40 },
-    ghost some: { 1 ≤ width.0 },
-    ghost few: { width.0 ≤ 22 },
-    ghost unused: { (drop width.0 a ≡ replicate (22 - width.0) 0) × (drop width.0 b ≡ replicate (22 - width.0) 0) × (drop width.0 c ≡ replicate (22 - width.0) 0) × (drop width.0 d ≡ replicate (22 - width.0) 0) },
+    ghost some: { 1 ≤ length a },
+    ghost few: { length a ≤ 22 },
+    ghost level: { (length b ≡ length a) × (length c ≡ length a) × (length d ≡ length a) },
 }

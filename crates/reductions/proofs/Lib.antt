@@ -1,4 +1,3 @@
 pub mod Asking
-pub mod Dropping
 pub mod Dividing
 pub mod Reducing

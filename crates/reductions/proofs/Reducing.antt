@@ -35,13 +35,12 @@ unfolding Reducing
 reducing_none v hs k x h = record { made = []; y = x; grew = grew_none v; stand = h; left_plan = refl; left_columns = refl; left_power = refl }
 
 -- at power 0 nothing is left
-pub reducing_done : (v w : Meaning) (start : Columns) (first : ℕ) (r : Reduced) → r.power.0 ≡ 0 → Reducing v w start first r.columns r.power.0 → ColumnsReduced v w start first (Ok r)
+pub reducing_done : (v w : Meaning) (start : Columns) (first : ℕ) (r : Reduced) (k : ℕ) → k ≡ 0 → r.power.0 ≡ 0 → Reducing v w start first r.columns k → ColumnsReduced v w start first (Ok r)
 unfolding Reducing ColumnsReduced Built reduction_plan reduced_columns reduced_power
-reducing_done v w start first r e a x h =
-    let n = qubits_of v in
-    let b = subst (λ (k : ℕ). LeftOver v w first x r.columns k) e (a x h) in (
+reducing_done v w start first r k e p a x h =
+    let b = subst (λ (j : ℕ). LeftOver v w first x r.columns j) e (a x h) in (
       subst (λ (l : List Table). Grew v w l) (sym (b.left_plan ∙ append-nil b.made)) b.grew,
-      record { power = e ∙ sym b.left_power; stand = subst (λ (z : Four). AllStand w r.columns z) (sym b.left_columns) b.stand },
+      record { power = p ∙ sym b.left_power; stand = subst (λ (z : Four). AllStand w r.columns z) (sym b.left_columns) b.stand },
     )
 
 -- both odd sums, in the store that has grown
@@ -165,3 +164,6 @@ module _ (v u t w : Meaning) (start : Columns) (first : ℕ) (hs : Columns) (k :
         left_columns = b.left_columns ∙ columns_divide n (k - 1) b.y c.1;
         left_power = b.left_power ∙ power_divides n (k - 1) b.y c.1;
       }
+
+-- what the turns of the loop lead to
+pub ruleset reducing_steps = (reducing_none, reducing_stopped_sums, reducing_stays, reducing_stopped_division, reducing_more, reducing_done)

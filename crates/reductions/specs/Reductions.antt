@@ -1,6 +1,5 @@
 -- What division by √2 and the normal form make, and what their answers stand for.
-use Rattle.std.specs.Prelude.{◌≡◌, ℕ, Bool, List, [], ◌∷◌, Ok, Err, Result}
-use Rattle.exact.specs.declared.SliceCount.{SliceCount}
+use Rattle.std.specs.Prelude.{◌≡◌, ℕ, Bool, List, [], ◌∷◌, length, Ok, Err, Result}
 use Rattle.functions.specs.declared.faults.StoreFault.{StoreFault}
 use Rattle.functions.specs.Tables.{Table}
 use Rattle.functions.specs.Meanings.{Meaning, qubits_of}
@@ -28,8 +27,8 @@ ColumnsDivided v w hs r =
     → Built v w (division_plan (qubits_of v) x) r (λ y. AllStand w y (divided (qubits_of v) x))
 
 -- the columns answered, if any, have this number of slices
-abbrev pub SlicedToo : SliceCount → Result Reduced StoreFault → Type 0
-SlicedToo slices (Ok y) = y.columns.slices ≡ slices
+abbrev pub SlicedToo : ℕ → Result Reduced StoreFault → Type 0
+SlicedToo slices (Ok y) = length y.columns.a ≡ slices
 SlicedToo slices (Err e) = Unit {0}
 
 -- the answer has the power and stands for the columns of the normal form of x with the power k

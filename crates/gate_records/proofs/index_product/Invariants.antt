@@ -1,9 +1,6 @@
 use Rattle.gate_records.proofs.Opening.{Opening}
 use Rattle.gate_records.proofs.index_product.Given as goal
 
-abbrev pub decreases-loop-q : goal.decreases-loop-q
-decreases-loop-q g l = l.q
-
 abbrev pub invariant-loop-q : goal.invariant-loop-q
 invariant-loop-q g l =
     let s = g.S.FunctionStore in
