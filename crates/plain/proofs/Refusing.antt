@@ -60,7 +60,7 @@ found_any {A = A} o f x e h k = ap (λ (p : Option A). of_any p f) h ∙ k
 
 -- ---- the table
 numbers : List ℕ
-numbers = 2 ∷ (3 ∷ (4 ∷ (5 ∷ (6 ∷ (7 ∷ (9 ∷ (10 ∷ (11 ∷ []))))))))
+numbers = 2 ∷ 3 ∷ 4 ∷ 5 ∷ 6 ∷ 7 ∷ 9 ∷ 10 ∷ 11 ∷ []
 
 module _ (s : Setting) (rs : Registers) (c : Call) where
   abbrev P : SimulatorFault → Type 0
