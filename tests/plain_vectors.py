@@ -46,18 +46,17 @@ pub fn {name}()
 
 SPEC_USES = """\
 -- One circuit and the answers expected.
-use Rattle.std.specs.Prelude.{◌≡◌, true, false, List, [], ◌∷◌, pos, negsuc}
+use Rattle.std.specs.Prelude.{◌≡◌, true, false, List, [], ◌∷◌, pos, negsuc, Ok, Err}
 use Rattle.exact.specs.Quadruples.{quadruple}
 use Rattle.functions.specs.declared.faults.StoreFault.TheVariants.{NoSpace}
 use Rattle.functions.specs.Meanings.{Setting}
 use Rattle.gates.specs.declared.Gate.TheVariants.{X, Z, H, S, T, Rx, Ry, Cx, Cz, Ccx}
-use Rattle.calls.specs.declared.Answer.{Answer}
 use Rattle.calls.specs.declared.Answer.TheVariants as answered
-use Rattle.calls.specs.declared.Answer.TheVariants.{Done, Refused}
+use Rattle.calls.specs.declared.Answer.TheVariants.{Done}
 use Rattle.calls.specs.declared.Call.{Call}
 use Rattle.calls.specs.declared.Call.TheVariants.{Open, Gate, Copy, Close, Amplitude, Weight, Same}
 use Rattle.calls.specs.declared.faults.SimulatorFault.TheVariants.{NoSuchRegister, RegisterEmpty, RegisterOpen, QubitOutOfRange, QubitTwice, PowerTooHigh, Store}
-use Rattle.plain.specs.Runs.{answers_of_run}
+use Rattle.plain.specs.Runs.{Outcome, answers_of_run}
 use Rattle.plain_examples.specs.Examples.{node_store, qubit}
 """
 
@@ -81,7 +80,7 @@ Run = namedtuple("Run", "name qubits lines answers")
 
 def listed(items):
     """A list."""
-    return "".join(f"{item} ∷ (" for item in items) + "[]" + ")" * len(items)
+    return " ∷ ".join([*items, "[]"])
 
 
 def integer(value):
@@ -133,16 +132,16 @@ def answer(words, line):
     assert told[:len(words)] == words, line
     told = told[len(words):]
     if words[0] == "amp":
-        return f"answered.Amplitude (record {{ quadruple = {quadruple(told[:4])}; power = {power(told[4])} }})"
+        return f"Ok (answered.Amplitude (record {{ quadruple = {quadruple(told[:4])}; power = {power(told[4])} }}))"
     if words[0] == "weight":
-        return f"answered.Weight (record {{ whole = {told[0]}; root = {integer(int(told[1]))}; power = {power(told[2])} }})"
-    return f"answered.Same {'true' if told == ['yes'] else 'false'}"
+        return f"Ok (answered.Weight (record {{ whole = {told[0]}; root = {integer(int(told[1]))}; power = {power(told[2])} }}))"
+    return f"Ok (answered.Same {'true' if told == ['yes'] else 'false'})"
 
 
 def refusal(text, number, line, column):
     """The answer of a line `refused`."""
     fault = BY_LINE.get(number) or BY_WORD[number].format(text[line - 1][column - 1:].split(" ")[0])
-    return f"Refused ({fault})"
+    return f"Err ({fault})"
 
 
 def definition(name, kind, value):
@@ -177,7 +176,7 @@ def run_of(name, text, output):
             run.answers.append(refusal(text, *refused))
             refused = None
             break
-        run.answers.append(answer(line.words, output.pop(0)) if line.kind == "reads" else "Done")
+        run.answers.append(answer(line.words, output.pop(0)) if line.kind == "reads" else "Ok Done")
     assert not output and not refused, (output, refused)
     return run
 
@@ -200,7 +199,7 @@ def has_space(run):
 
 def turned(run):
     """The run with another last answer."""
-    last = "Refused (RegisterEmpty 0)" if run.answers[-1] == "Done" else "Done"
+    last = "Err (RegisterEmpty 0)" if run.answers[-1] == "Ok Done" else "Ok Done"
     return run._replace(answers=run.answers[:-1] + [last])
 
 
@@ -266,7 +265,7 @@ def circuit_text(run):
         SPEC_USES,
         definition("setting", "Setting", setting),
         definition("asked", "List Call", listed([CALLS[line.kind](line.words) for line in run.lines])),
-        definition("expected", "List Answer", listed(run.answers)),
+        definition("expected", "List Outcome", listed(run.answers)),
         definition(f"{module(run)}Agrees", "Type 0", "answers_of_run setting asked ≡ expected"),
     ])
 

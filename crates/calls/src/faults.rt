@@ -1,13 +1,14 @@
 //! Why a simulator refuses.
-ghost use Rattle.std.specs.Prelude.{◌≡◌};
-ghost use Rattle.calls.specs.Faults.{number_of, value_of, layer_of};
+ghost use Rattle.std.specs.Prelude.{◌≡◌, Some};
+ghost use Rattle.calls.specs.Faults.{number_of, value_of, layer_of, refusal_text};
 ghost use Rattle.calls.specs.declared.faults.SimulatorFault.TheVariants.{Store};
 
 use exact::{Qubit, RootTwoPower, SliceCount};
 use functions::{Layer, StoreFault};
+use std::fmt;
 
 /// A fault of a simulator's call.
-#[derive(Clone, Copy)]
+#[derive(Clone, Copy, PartialEq, Eq)]
 pub enum SimulatorFault {
     /// The register is above 3.
     NoSuchRegister(u32),
@@ -80,5 +81,15 @@ impl SimulatorFault {
             SimulatorFault::Store(fault) => fault.layer(),
             _ => Layer::Simulator,
         }
+    }
+}
+
+impl fmt::Display for SimulatorFault {
+    ghost output = { λ e. Some (refusal_text e) };
+
+    fn fmt<W: fmt::Write>(&self, f: &mut fmt::Formatter<W>) -> fmt::Result {
+        let number = self.number();
+        let value = self.value();
+        write!(f, "refused {number} {value}")
     }
 }

@@ -20,6 +20,7 @@ pub enum Call {
     Gate {
         gate: Gate,
         register: u32,
+        // A fixed array: a call is handed over without allocation, and the definitions read 0 for a missing qubit.
         qubits: [Qubit; 3],
     },
     /// Fills an empty register from an open one.
@@ -49,14 +50,12 @@ pub enum Call {
     },
 }
 
-/// What a call answers.
-#[derive(Clone, Copy)]
+/// What an accepted call answers. The outcome of a call is a `Result<Answer, SimulatorFault>`: a refused one changes nothing.
+#[derive(Clone, Copy, PartialEq, Eq)]
 pub enum Answer {
     /// The registers are changed as asked.
     Done,
     Amplitude(Amplitude),
     Weight(Weight),
     Same(bool),
-    /// Nothing is changed.
-    Refused(SimulatorFault),
 }

@@ -5,3 +5,4 @@ pub mod Multiplied
 pub mod Columns
 pub mod Registers
 pub mod Weights
+pub mod Computing

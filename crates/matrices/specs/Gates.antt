@@ -39,13 +39,13 @@ pub record GateMatrix : Type 0 where
 
 -- lists of two, four and eight
 abbrev pub two : {A : Type 0} → A → A → List A
-two a b = a ∷ (b ∷ [])
+two a b = a ∷ b ∷ []
 
 abbrev pub four : {A : Type 0} → A → A → A → A → List A
-four a b c d = a ∷ (b ∷ (c ∷ (d ∷ [])))
+four a b c d = a ∷ b ∷ c ∷ d ∷ []
 
 abbrev pub eight : {A : Type 0} → A → A → A → A → A → A → A → A → List A
-eight a b c d e f g h = a ∷ (b ∷ (c ∷ (d ∷ (e ∷ (f ∷ (g ∷ (h ∷ [])))))))
+eight a b c d e f g h = a ∷ b ∷ c ∷ d ∷ e ∷ f ∷ g ∷ h ∷ []
 
 -- the rows, divided k times by √2
 abbrev pub over_power : ℕ → List (List Entry) → GateMatrix

@@ -39,7 +39,7 @@ fn answer(rt: &HostRuntime, words: &[&str]) -> anyhow::Result<()> {
 
 fn divide(rt: &HostRuntime, quadruple: Quadruple) -> io::Result<()> {
     match quadruple.over_root_two() {
-        Some(Quadruple { a, b, c, d }) => println!(rt; "{a} {b} {c} {d}"),
+        Some(divided) => rt.println(divided),
         None => println!(rt; "-"),
     }
 }

@@ -1,5 +1,6 @@
 -- The first number of a list that a test holds of, and the first that is equal to an earlier one.
-use Rattle.std.proofs.Common.{◌≡◌, ℕ, Bool, true, false, cond, eqb, List, [], ◌∷◌, ◌++◌, Some, None, Decides, Option, sym, refl, ap, ◌∙◌, arith}
+use Rattle.std.proofs.Common.{◌≡◌, ℕ, Bool, true, false, cond, eqb, List, [], ◌∷◌, ◌++◌, Some, None, Decides, sym, refl, ap, ◌∙◌}
+use Rattle.std.proofs.lemmas.Option.{none-some, same_Some}
 use Rattle.std.specs.List.{AllByRecursion}
 use Rattle.std.proofs.lemmas.Bool.{both_ways, eqb-false, ne_eqb, or_parts, or_from, cond-true, cond-false}
 use Rattle.exact.specs.Indices.{NotAmong, Apart}
@@ -8,21 +9,15 @@ use Rattle.calls.specs.declared.faults.SimulatorFault.TheVariants.{QubitTwice}
 use Rattle.plain.specs.Refusals.{first_that, among, first_repeated}
 use Rattle.plain.specs.Faults.{First, FirstRepeated}
 
-pub some_same : {A : Type 0} {x y : A} → Some x ≡ Some y → x ≡ y
-some_same e = cc
-
-pub none_some : {A : Type 0} {x : A} → ◌≡◌ {A = Option A} None (Some x) → ⊥
-none_some e = let z : ◌≡◌ {A = ℕ} 0 1 = cc in omega arith
-
 -- ---- the first that a test holds of
 module _ (test : ℕ → Bool) (P : ℕ → Type 0) (decides : (x : ℕ) → Decides (test x) (P x)) (fault : ℕ → SimulatorFault) where
   pub first_found : (xs : List ℕ) (e : SimulatorFault) → first_that test fault xs ≡ Some e → (x : ℕ) × (fault x ≡ e) × First P x xs
   unfolding first_that
-  first_found [] e h = absurd (none_some h)
+  first_found [] e h = absurd (none-some _ h)
   first_found (y ∷ ys) e h = go (test y) refl h (λ k. first_found ys e k)
     where
       go : (b : Bool) → test y ≡ b → cond b (Some (fault y)) (first_that test fault ys) ≡ Some e → (first_that test fault ys ≡ Some e → (x : ℕ) × (fault x ≡ e) × First P x ys) → (x : ℕ) × (fault x ≡ e) × First P x (y ∷ ys)
-      go true t k rest = (y, some_same k, record { before = []; behind = ys; place = refl; here = (decides y).0 t; none_before = tt })
+      go true t k rest = (y, same_Some _ _ k, record { before = []; behind = ys; place = refl; here = (decides y).0 t; none_before = tt })
       go false t k rest =
           let r = rest k in
           (r.0, r.1, record { before = y ∷ r.2.before; behind = r.2.behind; place = ap (λ (l : List ℕ). y ∷ l) r.2.place; here = r.2.here; none_before = ((λ p. both_ways (test y) t ((decides y).1 p)), r.2.none_before) })
@@ -45,7 +40,7 @@ module _ (test : ℕ → Bool) (P : ℕ → Type 0) (decides : (x : ℕ) → Dec
   none_found (y ∷ ys) h = go (test y) refl h (λ k. none_found ys k)
     where
       go : (b : Bool) → test y ≡ b → cond b (Some (fault y)) (first_that test fault ys) ≡ None → (first_that test fault ys ≡ None → AllByRecursion (λ z. P z → ⊥) ys) → (P y → ⊥) × AllByRecursion (λ z. P z → ⊥) ys
-      go true t k rest = absurd (none_some (sym k))
+      go true t k rest = absurd (none-some _ (sym k))
       go false t k rest = ((λ p. both_ways (test y) t ((decides y).1 p)), rest k)
 
 -- ---- the first that is equal to an earlier one
@@ -89,11 +84,11 @@ twice q = QubitTwice (record { 0 = q })
 
 repeated_found : (earlier qs : List ℕ) (e : SimulatorFault) → first_repeated earlier qs ≡ Some e → (q : ℕ) × (twice q ≡ e) × Repeated earlier q qs
 unfolding first_repeated twice
-repeated_found earlier [] e h = absurd (none_some h)
+repeated_found earlier [] e h = absurd (none-some _ h)
 repeated_found earlier (p ∷ qs) e h = go (among p earlier) refl h (λ k. repeated_found (p ∷ earlier) qs e k)
   where
     go : (b : Bool) → among p earlier ≡ b → cond b (Some (twice p)) (first_repeated (p ∷ earlier) qs) ≡ Some e → (first_repeated (p ∷ earlier) qs ≡ Some e → (q : ℕ) × (twice q ≡ e) × Repeated (p ∷ earlier) q qs) → (q : ℕ) × (twice q ≡ e) × Repeated earlier q (p ∷ qs)
-    go true t k rest = (p, some_same k, record { before = []; behind = qs; place = refl; here = λ x y. both_ways (among p earlier) (among_none p earlier y) t; new = tt; apart = tt })
+    go true t k rest = (p, same_Some _ _ k, record { before = []; behind = qs; place = refl; here = λ x y. both_ways (among p earlier) (among_none p earlier y) t; new = tt; apart = tt })
     go false t k rest =
         let r = rest k in
         let f = r.2 in (
@@ -126,7 +121,7 @@ none_repeated earlier [] h = (tt, tt)
 none_repeated earlier (p ∷ qs) h = go (among p earlier) refl h (λ k. none_repeated (p ∷ earlier) qs k)
   where
     go : (b : Bool) → among p earlier ≡ b → cond b (Some (QubitTwice (record { 0 = p }))) (first_repeated (p ∷ earlier) qs) ≡ None → (first_repeated (p ∷ earlier) qs ≡ None → AllNew (p ∷ earlier) qs × Apart qs) → AllNew earlier (p ∷ qs) × Apart (p ∷ qs)
-    go true t k rest = absurd (none_some (sym k))
+    go true t k rest = absurd (none-some _ (sym k))
     go false t k rest = let r = rest k in ((not_among p earlier t, new_before p earlier qs r.0), (not_first p earlier qs r.0, r.1))
 
 -- with none before the list

@@ -1,5 +1,6 @@
 -- The rows of the plain machine's table of refusals, and the refusals that follow.
-use Rattle.std.proofs.Common.{◌≡◌, ℕ, ◌^◌, ◌<◌, ◌≤◌, Bool, true, false, not, ltb, ◌⊎◌, List, [], ◌∷◌, Some, None, Decides, Option, sym, refl, ap, ◌∙◌, subst, inl, inr, arith, lit<}
+use Rattle.std.proofs.Common.{◌≡◌, ℕ, ◌^◌, ◌<◌, ◌≤◌, Bool, true, not, ltb, ◌⊎◌, List, [], ◌∷◌, Some, None, Decides, Option, sym, refl, ap, ◌∙◌, subst, inl, inr, arith, lit<}
+use Rattle.std.proofs.lemmas.Option.{none-some, cond_some}
 use Rattle.std.specs.List.{AllByRecursion}
 use Rattle.std.proofs.lemmas.Bool.{ltb-true, ltb-false, lt-ltb, le-ltb, not-true, not_from_false, cond-true, cases_lt}
 use Rattle.exact.specs.Indices.{Below, Apart}
@@ -15,7 +16,7 @@ use Rattle.plain.specs.Registers.{Contents, Register, Registers, register_of, is
 use Rattle.plain.specs.Calls.{named, used, filled, indices, qubits, functions_made, state_left}
 use Rattle.plain.specs.Refusals.{Fault, fault_if, first_that, first_repeated, space_needed, of_any, no_space, power_too_high, too_wide, rows, first_fault, refusal}
 use Rattle.plain.specs.Faults.{First, OpenIn, Applies, Due}
-use Rattle.plain.proofs.Firsts.{some_same, none_some, first_found, found_first, none_found, first_repetition, repetition_first, no_repetition}
+use Rattle.plain.proofs.Firsts.{first_found, found_first, none_found, first_repetition, repetition_first, no_repetition}
 use Rattle.plain.proofs.Tables.{Ascending, Row, Rows, Complete, row_at, nothing_applies, first_due, due_first}
 
 -- ---- what the tests decide
@@ -42,8 +43,7 @@ empty_decided rs r = ((λ h. empty (register_of rs r) h), (λ h. ap (λ (x : Reg
 -- ---- rows about functions made and states left
 if_found : (b : Bool) (d e : SimulatorFault) → fault_if b d ≡ Some e → (b ≡ true) × (d ≡ e)
 unfolding fault_if
-if_found true d e h = (refl, some_same h)
-if_found false d e h = absurd (none_some h)
+if_found b d e h = cond_some b d e h
 
 found_if : (b : Bool) (e : SimulatorFault) → b ≡ true → fault_if b e ≡ Some e
 unfolding fault_if
@@ -51,7 +51,7 @@ found_if b e h = cond-true b (Some e) None h
 
 any_found : {A : Type 0} (o : Option A) (f : A → Fault) (e : SimulatorFault) → of_any o f ≡ Some e → (x : A) × (o ≡ Some x) × (f x ≡ Some e)
 unfolding of_any
-any_found None f e h = absurd (none_some h)
+any_found None f e h = absurd (none-some _ h)
 any_found (Some x) f e h = (x, refl, h)
 
 found_any : {A : Type 0} (o : Option A) (f : A → Fault) (x : A) (e : SimulatorFault) → o ≡ Some x → f x ≡ Some e → of_any o f ≡ Some e
@@ -60,7 +60,7 @@ found_any {A = A} o f x e h k = ap (λ (p : Option A). of_any p f) h ∙ k
 
 -- ---- the table
 numbers : List ℕ
-numbers = 2 ∷ (3 ∷ (4 ∷ (5 ∷ (6 ∷ (7 ∷ (9 ∷ (10 ∷ (11 ∷ []))))))))
+numbers = 2 ∷ 3 ∷ 4 ∷ 5 ∷ 6 ∷ 7 ∷ 9 ∷ 10 ∷ 11 ∷ []
 
 module _ (s : Setting) (rs : Registers) (c : Call) where
   abbrev P : SimulatorFault → Type 0
@@ -163,7 +163,7 @@ no_faults : (fs : List Fault) → first_fault fs ≡ None → AllByRecursion (λ
 unfolding first_fault
 no_faults [] h = tt
 no_faults (None ∷ fs) h = (refl, no_faults fs h)
-no_faults (Some e ∷ fs) h = absurd (none_some (sym h))
+no_faults (Some e ∷ fs) h = absurd (none-some _ (sym h))
 
 pub registers_there : (s : Setting) (rs : Registers) (c : Call) → refusal s rs c ≡ None → AllByRecursion (λ r. 3 < r → ⊥) (named c)
 unfolding refusal rows

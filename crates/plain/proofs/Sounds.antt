@@ -1,5 +1,6 @@
 -- Every open register of a run is what its opening and its moves make, within bounds.
 use Rattle.std.proofs.Common.{◌≡◌, ℕ, zero, suc, ◌≤◌, max, Bool, true, false, cond, ◌⊎◌, List, [], ◌∷◌, ◌++◌, length, set, Some, None, sym, refl, ap, ◌∙◌, subst, inl, inr, arith, lit≤}
+use Rattle.std.proofs.lemmas.Option.{none-some, same_Some}
 use Rattle.exact.specs.declared.Quadruple.{Quadruple}
 use Rattle.exact.specs.Indices.{Index, bits, listing, where_0, where_1, same_index}
 use Rattle.exact.specs.Quadruples.{zero_quadruple, one_quadruple}
@@ -10,16 +11,14 @@ use Rattle.gates.specs.Arity.{qubits_of}
 use Rattle.functions.specs.Meanings.{Setting}
 use Rattle.matrices.specs.Registers.{Move, moved, opened, led, MovePlaced, AllPlaced}
 use Rattle.matrices.proofs.Registers.{normal}
-use Rattle.calls.specs.declared.Answer.{Answer}
 use Rattle.calls.specs.declared.Call.{Call}
 use Rattle.calls.specs.declared.Call.TheVariants.{Open, Gate, Copy, Close, Amplitude, Weight, Same}
 use Rattle.plain.specs.Registers.{Contents, Register, Registers, all_empty, register_of, state_of, opened_at, gated, led_through}
 use Rattle.plain.specs.Calls.{move_of}
 use Rattle.plain.specs.Refusals.{refusal}
-use Rattle.plain.specs.Runs.{effect, step, after, answers, registers_of_run}
+use Rattle.plain.specs.Runs.{Outcome, effect, step, after, answers, registers_of_run}
 use Rattle.plain.specs.Laws.{Sound}
 use Rattle.plain.proofs.Arrays.{first_qubits_length}
-use Rattle.plain.proofs.Firsts.{some_same, none_some}
 use Rattle.plain.proofs.Refusing.{qubits_placed, state_within}
 use Rattle.plain.proofs.Steps.{after_step, set_there, effect_length}
 
@@ -97,18 +96,18 @@ sound_effect : (s : Setting) (rs : Registers) (c : Call) → AllSound s.qubits r
 unfolding effect opened_at led_through
 sound_effect s rs (Open r i) all h =
     set_sound s.qubits rs r (opened_at s.qubits (bits s.qubits i)) all
-    (λ c e. subst (Sound s.qubits) (some_same e) (sound_opening s.qubits (bits s.qubits i) (length_bits s.qubits i)))
+    (λ c e. subst (Sound s.qubits) (same_Some _ _ e) (sound_opening s.qubits (bits s.qubits i) (length_bits s.qubits i)))
 sound_effect s rs (Gate g r qs) all h = set_sound s.qubits rs r (led_through s.qubits (move_of g qs) (register_of rs r)) all (λ c e. by (register_of rs r) refl c e)
   where
     by : (x : Register) → register_of rs r ≡ x → (c : Contents) → led_through s.qubits (move_of g qs) x ≡ Some c → Sound s.qubits c
-    by None k c e = absurd (none_some e)
+    by None k c e = absurd (none-some _ e)
     by (Some d) k c e =
         let within = state_within s rs (Gate g r qs) (gated s.qubits (move_of g qs) d.state) h (ap (λ (x : Register). Some (gated s.qubits (move_of g qs) (state_of x))) k) in
         let placed = qubits_placed s rs (Gate g r qs) h in
-        subst (Sound s.qubits) (some_same e)
+        subst (Sound s.qubits) (same_Some _ _ e)
         (sound_move s.qubits d (move_of g qs) (all r d k) (record { as_many = first_qubits_length (qubits_of g) qs; below = placed.0; apart = placed.1 }) within.0 within.1)
 sound_effect s rs (Copy a b) all h = set_sound s.qubits rs b (register_of rs a) all (λ c e. all a c e)
-sound_effect s rs (Close r) all h = set_sound s.qubits rs r None all (λ c e. absurd (none_some e))
+sound_effect s rs (Close r) all h = set_sound s.qubits rs r None all (λ c e. absurd (none-some _ e))
 sound_effect s rs (Amplitude r i) all h = all
 sound_effect s rs (Weight r q b) all h = all
 sound_effect s rs (Same a b) all h = all
@@ -122,7 +121,7 @@ goes_on s rs (c ∷ cs) ds = goes_on s (step s rs c).registers cs ds
 pub answers_go_on : (s : Setting) (rs : Registers) (cs ds : List Call) → answers s rs (cs ++ ds) ≡ answers s rs cs ++ answers s (after s rs cs) ds
 unfolding after answers
 answers_go_on s rs [] ds = refl
-answers_go_on s rs (c ∷ cs) ds = ap (λ (x : List Answer). (step s rs c).answer ∷ x) (answers_go_on s (step s rs c).registers cs ds)
+answers_go_on s rs (c ∷ cs) ds = ap (λ (x : List Outcome). (step s rs c).answer ∷ x) (answers_go_on s (step s rs c).registers cs ds)
 
 sound_after : (s : Setting) (rs : Registers) (cs : List Call) → AllSound s.qubits rs → AllSound s.qubits (after s rs cs)
 unfolding after
@@ -136,11 +135,11 @@ sound_run s cs = sound_after s all_empty cs none
     none r c e = absurd (empty r e)
       where
         empty : (r : ℕ) → register_of all_empty r ≡ Some c → ⊥
-        empty zero e = none_some e
-        empty (suc zero) e = none_some e
-        empty (suc (suc zero)) e = none_some e
-        empty (suc (suc (suc zero))) e = none_some e
-        empty (suc (suc (suc (suc r)))) e = none_some e
+        empty zero e = none-some _ e
+        empty (suc zero) e = none-some _ e
+        empty (suc (suc zero)) e = none-some _ e
+        empty (suc (suc (suc zero))) e = none-some _ e
+        empty (suc (suc (suc (suc r)))) e = none-some _ e
 
 length_after : (s : Setting) (rs : Registers) (cs : List Call) → length (after s rs cs) ≡ length rs
 unfolding after

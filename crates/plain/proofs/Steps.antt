@@ -1,5 +1,5 @@
 -- One call: what it leaves unchanged.
-use Rattle.std.proofs.Common.{◌≡◌, ℕ, ◌<◌, ◌≤◌, Bool, ◌⊎◌, List, [], ◌∷◌, length, set, Some, None, sym, refl, ap, ◌∙◌, subst, inl, inr, arith}
+use Rattle.std.proofs.Common.{◌≡◌, ℕ, ◌<◌, ◌≤◌, Bool, ◌⊎◌, List, [], ◌∷◌, length, set, Some, None, Ok, Err, sym, refl, ap, ◌∙◌, subst, inl, inr, arith}
 use Rattle.std.specs.List.{AllByRecursion}
 use Rattle.std.proofs.lemmas.List.{length-set, get_or-set_same, get_or-set_other, set-get_or, set_past}
 use Rattle.std.proofs.lemmas.Bool.{cases_eq, cases_lt}
@@ -7,27 +7,30 @@ use Rattle.exact.specs.declared.Qubit.{Qubit}
 use Rattle.exact.specs.Indices.{bits, NotAmong}
 use Rattle.gates.specs.declared.Gate as gates
 use Rattle.functions.specs.Meanings.{Setting}
-use Rattle.calls.specs.declared.Answer.TheVariants.{Refused}
 use Rattle.calls.specs.declared.Call.{Call}
 use Rattle.calls.specs.declared.Call.TheVariants.{Open, Gate, Copy, Close, Amplitude, Weight, Same}
 use Rattle.calls.specs.declared.faults.SimulatorFault.{SimulatorFault}
 use Rattle.plain.specs.Registers.{Contents, Register, Registers, register_of, opened_at, led_through}
 use Rattle.plain.specs.Calls.{move_of, named}
 use Rattle.plain.specs.Refusals.{Fault, refusal}
-use Rattle.plain.specs.Runs.{effect, step_by, step}
+use Rattle.plain.specs.Runs.{effect, reply, step_by, step}
 use Rattle.plain.proofs.Refusing.{registers_there}
 
 pub refused_unchanged : (s : Setting) (rs : Registers) (c : Call) (e : SimulatorFault) → refusal s rs c ≡ Some e → (step s rs c).registers ≡ rs
 unfolding step step_by
 refused_unchanged s rs c e h = ap (λ (f : Fault). (step_by f s.qubits rs c).registers) h
 
-pub refused_answer : (s : Setting) (rs : Registers) (c : Call) (e : SimulatorFault) → refusal s rs c ≡ Some e → (step s rs c).answer ≡ Refused e
+pub refused_answer : (s : Setting) (rs : Registers) (c : Call) (e : SimulatorFault) → refusal s rs c ≡ Some e → (step s rs c).answer ≡ Err e
 unfolding step step_by
 refused_answer s rs c e h = ap (λ (f : Fault). (step_by f s.qubits rs c).answer) h
 
 pub accepted_effect : (s : Setting) (rs : Registers) (c : Call) → refusal s rs c ≡ None → (step s rs c).registers ≡ effect s.qubits rs c
 unfolding step step_by
 accepted_effect s rs c h = ap (λ (f : Fault). (step_by f s.qubits rs c).registers) h
+
+pub accepted_answer : (s : Setting) (rs : Registers) (c : Call) → refusal s rs c ≡ None → (step s rs c).answer ≡ Ok (reply s.qubits rs c)
+unfolding step step_by
+accepted_answer s rs c h = ap (λ (f : Fault). (step_by f s.qubits rs c).answer) h
 
 -- a fact of the registers after a call, from the two ways it can go
 pub after_step : (P : Registers → Type 0) (s : Setting) (rs : Registers) (c : Call) → P rs → (refusal s rs c ≡ None → P (effect s.qubits rs c)) → P (step s rs c).registers

@@ -1,11 +1,11 @@
 -- A table of refusals: the first fault of its rows is the one of the lowest number that applies.
 use Rattle.std.proofs.Common.{◌≡◌, ℕ, ◌<◌, Bool, true, false, cond, eqb, List, [], ◌∷◌, length, Some, None, sym, refl, ◌∙◌, subst, arith}
+use Rattle.std.proofs.lemmas.Option.{none-some, same_Some}
 use Rattle.std.specs.List.{AllByRecursion}
 use Rattle.std.proofs.lemmas.Bool.{eqb-true, ne_eqb, cond-false}
 use Rattle.calls.specs.declared.faults.SimulatorFault.{SimulatorFault}
 use Rattle.calls.specs.Faults.{number_of}
 use Rattle.plain.specs.Refusals.{Fault, first_fault}
-use Rattle.plain.proofs.Firsts.{some_same, none_some}
 
 -- each number of a list is above the one before it
 abbrev pub AscendingFrom : ℕ → List ℕ → Type 0
@@ -51,8 +51,8 @@ below_all j (k ∷ ks) (f ∷ fs) a =
 
 above_some : (k : ℕ) (ks : List ℕ) (fs : List Fault) (j : ℕ) (e : SimulatorFault) → Above k ks → row_at ks fs j ≡ Some e → k < j
 unfolding row_at
-above_some k [] fs j e a h = absurd (none_some h)
-above_some k (i ∷ ks) [] j e a h = absurd (none_some h)
+above_some k [] fs j e a h = absurd (none-some _ h)
+above_some k (i ∷ ks) [] j e a h = absurd (none-some _ h)
 above_some k (i ∷ ks) (f ∷ fs) j e a h = go (eqb j i) refl h (λ r. above_some k ks fs j e a.1 r)
   where
     go : (b : Bool) → eqb j i ≡ b → cond b f (row_at ks fs j) ≡ Some e → (row_at ks fs j ≡ Some e → k < j) → k < j
@@ -78,25 +78,25 @@ module _ (P : SimulatorFault → Type 0) where
   complete_past k ks fs c e p = go (eqb (number_of e) k) (c e p)
     where
       go : (b : Bool) → cond b None (row_at ks fs (number_of e)) ≡ Some e → row_at ks fs (number_of e) ≡ Some e
-      go true h = absurd (none_some h)
+      go true h = absurd (none-some _ h)
       go false h = h
 
   pub nothing_applies : (ks : List ℕ) (fs : List Fault) → Complete ks fs → first_fault fs ≡ None → (e : SimulatorFault) → P e → ⊥
   unfolding row_at first_fault
-  nothing_applies [] fs c h e p = none_some (c e p)
-  nothing_applies (k ∷ ks) [] c h e p = none_some (c e p)
+  nothing_applies [] fs c h e p = none-some _ (c e p)
+  nothing_applies (k ∷ ks) [] c h e p = none-some _ (c e p)
   nothing_applies (k ∷ ks) (None ∷ fs) c h e p = nothing_applies ks fs (complete_past k ks fs c) h e p
-  nothing_applies (k ∷ ks) (Some d ∷ fs) c h e p = none_some (sym h)
+  nothing_applies (k ∷ ks) (Some d ∷ fs) c h e p = none-some _ (sym h)
 
   -- the first fault applies, and none of a lower number does
   pub first_due : (ks : List ℕ) (fs : List Fault) → Ascending ks → Rows ks fs → Complete ks fs → length ks ≡ length fs → (e : SimulatorFault) → first_fault fs ≡ Some e
       → P e × ((d : SimulatorFault) → number_of d < number_of e → P d → ⊥)
   unfolding row_at first_fault
-  first_due [] [] a r c l e h = absurd (none_some h)
+  first_due [] [] a r c l e h = absurd (none-some _ h)
   first_due [] (f ∷ fs) a r c l e h = absurd (omega arith)
-  first_due (k ∷ ks) [] a r c l e h = absurd (none_some h)
+  first_due (k ∷ ks) [] a r c l e h = absurd (none-some _ h)
   first_due (k ∷ ks) (None ∷ fs) a r c l e h = first_due ks fs (rest_ascends k ks a) r.1 (complete_past k ks fs c) (let m : length ks ≡ length fs = omega arith in m) e h
-  first_due (k ∷ ks) (Some d ∷ fs) a r c l e h = subst (λ (x : SimulatorFault). P x × ((d : SimulatorFault) → number_of d < number_of x → P d → ⊥)) (some_same h) ((r.0 d refl).0, lower)
+  first_due (k ∷ ks) (Some d ∷ fs) a r c l e h = subst (λ (x : SimulatorFault). P x × ((d : SimulatorFault) → number_of d < number_of x → P d → ⊥)) (same_Some _ _ h) ((r.0 d refl).0, lower)
     where
       n : number_of d ≡ k
       n = (r.0 d refl).1
@@ -104,13 +104,13 @@ module _ (P : SimulatorFault → Type 0) where
       lower : (x : SimulatorFault) → number_of x < number_of d → P x → ⊥
       lower x b p =
           let b' : number_of x < k = subst (λ (j : ℕ). number_of x < j) n b in
-          none_some (sym (below_all (number_of x) (k ∷ ks) (Some d ∷ fs) (b', above (number_of x) k ks b' a)) ∙ c x p)
+          none-some _ (sym (below_all (number_of x) (k ∷ ks) (Some d ∷ fs) (b', above (number_of x) k ks b' a)) ∙ c x p)
 
   -- and the only such fault is the first
   pub due_first : (ks : List ℕ) (fs : List Fault) → Ascending ks → Rows ks fs → Complete ks fs → (e : SimulatorFault) → P e → ((d : SimulatorFault) → number_of d < number_of e → P d → ⊥) → first_fault fs ≡ Some e
   unfolding row_at first_fault
-  due_first [] fs a r c e p q = absurd (none_some (c e p))
-  due_first (k ∷ ks) [] a r c e p q = absurd (none_some (c e p))
+  due_first [] fs a r c e p q = absurd (none-some _ (c e p))
+  due_first (k ∷ ks) [] a r c e p q = absurd (none-some _ (c e p))
   due_first (k ∷ ks) (None ∷ fs) a r c e p q = due_first ks fs (rest_ascends k ks a) r.1 (complete_past k ks fs c) e p q
   due_first (k ∷ ks) (Some d ∷ fs) a r c e p q = go (eqb (number_of e) k) (c e p)
     where

@@ -25,11 +25,11 @@ move_of g qs = record { gate = g; qubits = first_qubits (qubits_of g) qs }
 abbrev pub named : Call → List ℕ
 named (Open r i) = r ∷ []
 named (Gate g r qs) = r ∷ []
-named (Copy a b) = a ∷ (b ∷ [])
+named (Copy a b) = a ∷ b ∷ []
 named (Close r) = r ∷ []
 named (Amplitude r i) = r ∷ []
 named (Weight r q b) = r ∷ []
-named (Same a b) = a ∷ (b ∷ [])
+named (Same a b) = a ∷ b ∷ []
 
 -- those of them that must be open, and those that must be empty
 abbrev pub used : Call → List ℕ
@@ -39,7 +39,7 @@ used (Copy a b) = a ∷ []
 used (Close r) = r ∷ []
 used (Amplitude r i) = r ∷ []
 used (Weight r q b) = r ∷ []
-used (Same a b) = a ∷ (b ∷ [])
+used (Same a b) = a ∷ b ∷ []
 
 abbrev pub filled : Call → List ℕ
 filled (Open r i) = r ∷ []

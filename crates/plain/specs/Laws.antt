@@ -1,5 +1,5 @@
 -- The laws of the plain machine.
-use Rattle.std.specs.Prelude.{◌≡◌, ℕ, ◌≤◌, Bool, true, false, List, ◌++◌, map, length, take, Some, None, Decides}
+use Rattle.std.specs.Prelude.{◌≡◌, ℕ, ◌≤◌, Bool, true, false, List, ◌++◌, map, length, take, Some, None, Ok, Err, IsTrue, ◌↔◌}
 use Rattle.exact.specs.declared.Qubit.{Qubit}
 use Rattle.exact.specs.Indices.{bits, NotAmong}
 use Rattle.exact.specs.Squares.{add_squares, sum_of_squares, outcome}
@@ -9,14 +9,13 @@ use Rattle.gates.specs.declared.Gate as gates
 use Rattle.matrices.specs.Registers.{register, AllPlaced}
 use Rattle.matrices.specs.Products.{product_of, column, SameMatrix}
 use Rattle.matrices.specs.Laws.{unit_total}
-use Rattle.calls.specs.declared.Answer.TheVariants.{Refused}
 use Rattle.calls.specs.declared.Call.{Call}
 use Rattle.calls.specs.declared.Call.TheVariants.{Open, Gate, Copy, Close, Amplitude, Weight, Same}
 use Rattle.calls.specs.declared.faults.SimulatorFault.{SimulatorFault}
 use Rattle.plain.specs.Registers.{Contents, Registers, register_of, opened_at, led_through}
 use Rattle.plain.specs.Calls.{first_qubits, move_of, named}
 use Rattle.plain.specs.Refusals.{refusal}
-use Rattle.plain.specs.Runs.{same_state, step, after, answers, registers_of_run}
+use Rattle.plain.specs.Runs.{reply, same_state, step, after, answers, registers_of_run}
 use Rattle.plain.specs.Faults.{Applies, Due}
 
 pub record RefusalLaws : Type 0 where
@@ -31,7 +30,9 @@ pub record RefusalLaws : Type 0 where
 pub record CallLaws : Type 0 where
   -- a refused call changes nothing, and answers its fault
   pub refused_unchanged : (s : Setting) (rs : Registers) (c : Call) (e : SimulatorFault) → refusal s rs c ≡ Some e → (step s rs c).registers ≡ rs
-  pub refused_answer : (s : Setting) (rs : Registers) (c : Call) (e : SimulatorFault) → refusal s rs c ≡ Some e → (step s rs c).answer ≡ Refused e
+  pub refused_answer : (s : Setting) (rs : Registers) (c : Call) (e : SimulatorFault) → refusal s rs c ≡ Some e → (step s rs c).answer ≡ Err e
+  -- an accepted call has an answer
+  pub accepted_answer : (s : Setting) (rs : Registers) (c : Call) → refusal s rs c ≡ None → (step s rs c).answer ≡ Ok (reply s.qubits rs c)
   -- a question changes nothing
   pub amplitude_unchanged : (s : Setting) (rs : Registers) (r i : ℕ) → (step s rs (Amplitude r i)).registers ≡ rs
   pub weight_unchanged : (s : Setting) (rs : Registers) (r : ℕ) (q : Qubit) (b : Bool) → (step s rs (Weight r q b)).registers ≡ rs
@@ -80,7 +81,7 @@ pub record RunLaws : Type 0 where
   pub same_then_equal : (s : Setting) (cs : List Call) (q r : ℕ) (c d : Contents) → OpenAfter s cs q c → OpenAfter s cs r d
       → SameAmplitudes c.state d.state → c.state ≡ d.state
   pub same_answers : (s : Setting) (cs : List Call) (q r : ℕ) (c d : Contents) → OpenAfter s cs q c → OpenAfter s cs r d
-      → Decides (same_state c.state d.state) (SameAmplitudes c.state d.state)
+      → IsTrue (same_state c.state d.state) ↔ SameAmplitudes c.state d.state
   -- they have equal lists and powers if they were opened at the same index and the products of their gates' matrices are equal
   pub equal_products : (s : Setting) (cs : List Call) (q r : ℕ) (c d : Contents) → OpenAfter s cs q c → OpenAfter s cs r d
       → c.opening ≡ d.opening → SameMatrix s.qubits (product_of s.qubits c.moves) (product_of s.qubits d.moves) → c.state ≡ d.state

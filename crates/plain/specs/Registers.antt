@@ -20,7 +20,7 @@ abbrev pub Registers : Type 0
 Registers = List Register
 
 abbrev pub all_empty : Registers
-all_empty = None ∷ (None ∷ (None ∷ (None ∷ [])))
+all_empty = None ∷ None ∷ None ∷ None ∷ []
 
 -- register r; above 3 there is none, and it counts as empty
 abbrev pub register_of : Registers → ℕ → Register

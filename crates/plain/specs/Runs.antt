@@ -1,5 +1,5 @@
 -- What calls do and answer, one by one and in whole runs.
-use Rattle.std.specs.Prelude.{ℕ, Bool, true, false, ◌&&◌, List, [], ◌∷◌, ℤ, ◌-ℤ◌, Some, None, ◌==◌, slice_set}
+use Rattle.std.specs.Prelude.{ℕ, Bool, true, false, ◌&&◌, List, [], ◌∷◌, ℤ, ◌-ℤ◌, Some, None, Ok, Err, Result, ◌==◌, slice_set}
 use Rattle.exact.specs.declared.Quadruple.{Quadruple}
 use Rattle.exact.specs.Indices.{bits}
 use Rattle.exact.specs.Shares.{is_zero}
@@ -8,9 +8,10 @@ use Rattle.exact.specs.States.{State, amplitude_at}
 use Rattle.functions.specs.Meanings.{Setting}
 use Rattle.calls.specs.declared.Answer.{Answer}
 use Rattle.calls.specs.declared.Answer.TheVariants as answered
-use Rattle.calls.specs.declared.Answer.TheVariants.{Done, Refused}
+use Rattle.calls.specs.declared.Answer.TheVariants.{Done}
 use Rattle.calls.specs.declared.Call.{Call}
 use Rattle.calls.specs.declared.Call.TheVariants.{Open, Gate, Copy, Close, Amplitude, Weight, Same}
+use Rattle.calls.specs.declared.faults.SimulatorFault.{SimulatorFault}
 use Rattle.plain.specs.Registers.{Registers, all_empty, register_of, state_of, opened_at, led_through}
 use Rattle.plain.specs.Calls.{move_of}
 use Rattle.plain.specs.Refusals.{Fault, refusal}
@@ -51,25 +52,29 @@ reply n rs (Amplitude r i) = answered.Amplitude (amplitude_at (state_of (registe
 reply n rs (Weight r q b) = answered.Weight (weight n (outcome q.0 b) (state_of (register_of rs r)))
 reply n rs (Same a b) = answered.Same (same_state (state_of (register_of rs a)) (state_of (register_of rs b)))
 
--- one call: the registers after it, and its answer
+-- the outcome of a call: what it answers, or the fault that it is refused with
+abbrev pub Outcome : Type 0
+Outcome = Result Answer SimulatorFault
+
+-- one call: the registers after it, and its outcome
 pub record Step : Type 0 where
   pub registers : Registers
-  pub answer : Answer
+  pub answer : Outcome
 
 -- a refused call changes nothing
 unfoldable pub step_by : Fault → ℕ → Registers → Call → Step
-step_by None n rs c = record { registers = effect n rs c; answer = reply n rs c }
-step_by (Some e) n rs c = record { registers = rs; answer = Refused e }
+step_by None n rs c = record { registers = effect n rs c; answer = Ok (reply n rs c) }
+step_by (Some e) n rs c = record { registers = rs; answer = Err e }
 
 unfoldable pub step : Setting → Registers → Call → Step
 step s rs c = step_by (refusal s rs c) s.qubits rs c
 
--- the registers after some calls, and the answers to them
+-- the registers after some calls, and their outcomes
 unfoldable pub after : Setting → Registers → List Call → Registers
 after s rs [] = rs
 after s rs (c ∷ cs) = after s (step s rs c).registers cs
 
-unfoldable pub answers : Setting → Registers → List Call → List Answer
+unfoldable pub answers : Setting → Registers → List Call → List Outcome
 answers s rs [] = []
 answers s rs (c ∷ cs) = (step s rs c).answer ∷ answers s (step s rs c).registers cs
 
@@ -77,5 +82,5 @@ answers s rs (c ∷ cs) = (step s rs c).answer ∷ answers s (step s rs c).regis
 abbrev pub registers_of_run : Setting → List Call → Registers
 registers_of_run s cs = after s all_empty cs
 
-abbrev pub answers_of_run : Setting → List Call → List Answer
+abbrev pub answers_of_run : Setting → List Call → List Outcome
 answers_of_run s cs = answers s all_empty cs

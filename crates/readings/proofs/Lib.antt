@@ -1,4 +1,5 @@
 pub mod Bounds
+pub mod Adding
 pub mod Numbers
 pub mod Looping
 pub mod Rows

@@ -1,5 +1,5 @@
 -- Integers, quadruples and amplitudes, from the values that the store answers.
-use Rattle.std.proofs.Common.{◌≡◌, ℕ, ◌+◌, ◌^◌, ◌<◌, ◌≤◌, Bool, true, false, cond, ltb, List, [], map, length, get_or, take, set, ℤ, Some, Ok, Err, Result, sym, refl, ap, ◌∙◌, arith, w64, to_z}
+use Rattle.std.proofs.Common.{◌≡◌, ℕ, ◌+◌, ◌^◌, ◌<◌, ◌≤◌, Bool, true, false, cond, ltb, List, [], ◌∷◌, ◌++◌, map, length, get_or, take, ℤ, pos, Some, Ok, Err, Result, sym, refl, ap, ◌∙◌, subst, arith, w64, to_z, of_z}
 use mir.Val.{bool_byte}
 use Rattle.std.proofs.lemmas.Int.{ints}
 use Rattle.std.proofs.lemmas.Bool.{cond-true, lt-ltb, ltb-true}
@@ -26,7 +26,7 @@ use Rattle.slicing.specs.TwosComplement.{signed_sum, bit_number, signed_number}
 use Rattle.slicing.specs.Columns.{Column, Columns, bits_of, integer_at, Represents}
 use Rattle.slicing.proofs.Columns.{components_path}
 use Rattle.slicing.proofs.PlaceSums.{signed_map}
-use Rattle.readings.specs.declared.Slices.{Slices}
+use Rattle.readings.specs.declared.handles.Slices.{Slices}
 use Rattle.readings.specs.Bounds.{Within, itself}
 use Rattle.readings.specs.Columns.{handles, StandForColumns}
 use Rattle.readings.specs.Amplitudes.{at_number, IntegerRead, quadruple_of, QuadrupleRead, AmplitudeRead}
@@ -65,57 +65,72 @@ abbrev bit_at : Index → Table → ℤ
 bit_at y f = bit_number (value_at f y)
 
 -- a bit as the code has it
-pub byte_is : (b : Bool) → to_z w64 (bool_byte b) ≡ bit_number b
-byte_is true = refl
-byte_is false = refl
+pub byte_is : (b : Bool) (z : ℤ) → z ≡ pos (bool_byte b) → to_z w64 (of_z w64 z) ≡ bit_number b
+byte_is true z e = ap (λ (y : ℤ). to_z w64 (of_z w64 y)) e
+byte_is false z e = ap (λ (y : ℤ). to_z w64 (of_z w64 y)) e
 
-pub byte_within : (b : Bool) → Within 1 (to_z w64 (bool_byte b))
-byte_within true = record { not_below = omega (arith, ints); not_above = omega (arith, ints) }
-byte_within false = record { not_below = omega (arith, ints); not_above = omega (arith, ints) }
+pub byte_within : (b : Bool) (z : ℤ) → z ≡ pos (bool_byte b) → Within 1 (to_z w64 (of_z w64 z))
+byte_within b z e = subst (Within 1) (sym (byte_is b z e)) (bit b)
+  where
+    bit : (b : Bool) → Within 1 (bit_number b)
+    bit true = record { not_below = omega (arith, ints); not_above = omega (arith, ints) }
+    bit false = record { not_below = omega (arith, ints); not_above = omega (arith, ints) }
 
 -- the first j bits are read
 pub record BitsRead (m : Meaning) (i : ℕ) (ss : Column) (read : List ℤ) (j : ℕ) : Type 0 where
   pub in_range : 1 ≤ j → i < 2 ^ qubits_of m
-  pub found : take j read ≡ map (bit_at (bits (qubits_of m) i)) (take j ss)
+  pub found : read ≡ map (bit_at (bits (qubits_of m) i)) (take j ss)
 
 unfoldable pub Reading : Meaning → List ℕ → ℕ → List ℤ → ℕ → Type 0
 Reading m ks i read j = (ss : Column) → StandFor m ks ss → BitsRead m i ss read j
 
-pub reading_none : (m : Meaning) (ks : List ℕ) (i : ℕ) (read : List ℤ) → Reading m ks i read 0
+pub reading_none : (m : Meaning) (ks : List ℕ) (i : ℕ) → Reading m ks i [] 0
 unfolding Reading
-reading_none m ks i read ss h = record { in_range = λ l. absurd (let b : ⊥ = omega arith in b); found = refl }
+reading_none m ks i ss h = record { in_range = λ l. absurd (let b : ⊥ = omega arith in b); found = refl }
 
 module _ (m : Meaning) (ks : List ℕ) (i : ℕ) (read : List ℤ) (j : ℕ) (here : j < length ks) where
   slice_value : (ss : Column) → StandFor m ks ss → value_answer m (get_or ks j 0) i ≡ at_number m i (value_at (get_or ss j []) (bits (qubits_of m) i))
   slice_value ss h = value_held m (get_or ks j 0) i (get_or ss j []) (stand_for_at m ks ss j h here)
 
-  pub reading_more : (b : Bool) (z : ℤ) → j < length read → Reading m ks i read j → Ok b ≡ value_answer m (get_or ks j 0) i → z ≡ bit_number b → Reading m ks i (set read j z) (j + 1)
+  pub reading_more : (b : Bool) (z : ℤ) → Reading m ks i read j → Ok b ≡ value_answer m (get_or ks j 0) i → z ≡ bit_number b → Reading m ks i (read ++ (z ∷ [])) (j + 1)
   unfolding Reading
-  reading_more b z l a e v ss h =
+  reading_more b z a e v ss h =
       let p = at_number_ok m i (value_at (get_or ss j []) (bits (qubits_of m) i)) b (e ∙ slice_value ss h) in
       record {
         in_range = λ k. p.0;
-        found = found_more [] (bit_at (bits (qubits_of m) i)) ss read j z (omega (arith, stand_for_length m ks ss h)) l (a ss h).found (v ∙ ap bit_number p.1);
+        found = found_more [] (bit_at (bits (qubits_of m) i)) ss read j z (omega (arith, stand_for_length m ks ss h)) (a ss h).found (v ∙ ap bit_number p.1);
       }
 
   pub reading_refused : (d : StoreFault) → Err d ≡ value_answer m (get_or ks j 0) i → IntegerRead m ks i (Err d)
   unfolding IntegerRead
   reading_refused d e ss h = at_number_err m i (value_at (get_or ss j []) (bits (qubits_of m) i)) (integer_at ss (bits (qubits_of m) i)) d (e ∙ slice_value ss h)
 
-pub integer_read : (m : Meaning) (ks : List ℕ) (i : ℕ) (read : List ℤ) (j : ℕ) (z : ℤ) → 1 ≤ length ks → j ≡ length ks → Reading m ks i read j → z ≡ signed_sum itself (take (length ks) read) → IntegerRead m ks i (Ok z)
+pub integer_read : (m : Meaning) (ks : List ℕ) (i : ℕ) (read : List ℤ) (j : ℕ) (z : ℤ) → 1 ≤ length ks → j ≡ length ks → Reading m ks i read j → z ≡ signed_sum itself read → IntegerRead m ks i (Ok z)
 unfolding Reading IntegerRead integer_at signed_number bits_of
 integer_read m ks i read j z some l a e ss h =
     let b : BitsRead m i ss read j = a ss h in
     let y : Index = bits (qubits_of m) i in
     let k : length ss ≡ j = stand_for_length m ks ss h ∙ sym l in
     sym (at_number_is m i (signed_sum bit_number (map (λ (f : Table). value_at f y) ss)) (b.in_range (omega arith))
-    ∙ ap Ok (signed_map bit_number (λ (f : Table). value_at f y) ss ∙ sym (sum_found (bit_at y) ss read j k b.found) ∙ ap (λ (t : ℕ). signed_sum itself (take t read)) l ∙ sym e))
+    ∙ ap Ok (signed_map bit_number (λ (f : Table). value_at f y) ss ∙ sym (sum_found (bit_at y) ss read j k b.found) ∙ sym e))
 
 -- ---- quadruples
 module _ (m : Meaning) (s : Slices) (i : ℕ) where
-  pub component_refused : (k : Component) (d : StoreFault) → IntegerRead m (handles s k) i (Err d) → QuadrupleRead m s i (Err d)
+  component_refused : (k : Component) (d : StoreFault) → IntegerRead m (handles s k) i (Err d) → QuadrupleRead m s i (Err d)
   unfolding QuadrupleRead IntegerRead StandForColumns
   component_refused k d a x h = at_number_err m i (integer_at (x k) (bits (qubits_of m) i)) (quadruple_of x (bits (qubits_of m) i)) d (a (x k) (h k))
+
+  pub a_refused : (d : StoreFault) → IntegerRead m s.a.handles.now i (Err d) → QuadrupleRead m s i (Err d)
+  a_refused = component_refused A
+
+  pub b_refused : (d : StoreFault) → IntegerRead m s.b.handles.now i (Err d) → QuadrupleRead m s i (Err d)
+  b_refused = component_refused B
+
+  pub c_refused : (d : StoreFault) → IntegerRead m s.c.handles.now i (Err d) → QuadrupleRead m s i (Err d)
+  c_refused = component_refused C
+
+  pub d_refused : (d : StoreFault) → IntegerRead m s.d.handles.now i (Err d) → QuadrupleRead m s i (Err d)
+  d_refused = component_refused D
 
   pub quadruple_read : (a b c d a' b' c' d' : ℤ) → a' ≡ a → b' ≡ b → c' ≡ c → d' ≡ d → IntegerRead m (handles s A) i (Ok a) → IntegerRead m (handles s B) i (Ok b) → IntegerRead m (handles s C) i (Ok c) → IntegerRead m (handles s D) i (Ok d) → QuadrupleRead m s i (Ok (quadruple a' b' c' d'))
   unfolding QuadrupleRead IntegerRead StandForColumns

@@ -13,7 +13,7 @@ use Rattle.functions.specs.Growth.{StandFor}
 use Rattle.functions.specs.Answers.{checked}
 use Rattle.slicing.specs.declared.Component.TheVariants.{A, B, C, D}
 use Rattle.slicing.specs.Columns.{Column, Columns, integer_at, Represents}
-use Rattle.readings.specs.declared.Slices.{Slices}
+use Rattle.readings.specs.declared.handles.Slices.{Slices}
 use Rattle.readings.specs.Columns.{StandForColumns}
 
 -- what a question at the index of a number answers, if the number is below 2^n

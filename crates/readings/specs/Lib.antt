@@ -1,4 +1,5 @@
 pub mod Bounds
+pub mod Sums
 pub mod Columns
 pub mod Amplitudes
 pub mod Products

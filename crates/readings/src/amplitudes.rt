@@ -1,33 +1,36 @@
 //! Integers, quadruples and amplitudes at an index.
 ghost use Rattle.readings.specs.Amplitudes.{IntegerRead, QuadrupleRead, AmplitudeRead};
-ghost use Rattle.readings.specs.Columns.{ColumnFits, ColumnsFit};
 
-use crate::sums::signed_sum;
-use crate::{MOST_SLICES, Slices};
+use crate::sums::SignedSum;
+use crate::{SliceHandles, Slices};
 use exact::{Amplitude, Quadruple, RootTwoPower};
 use functions::{FunctionStore, StoreFault};
 
 /// The integer of a column at an index.
-pub fn integer<S: FunctionStore>(store: &S, slices: &[u32], index: u32) -> Result<i32, StoreFault>
-    requires order { S.ordered store.now }
-    requires fits { ColumnFits slices.now }
-    ensures { IntegerRead (S.meaning store.now) slices.now index result }
+#[tactic(auto, using(crate::proofs::Numbers::reading_refused))]
+pub fn integer<S: FunctionStore>(
+    store: &S,
+    slices: SliceHandles,
+    index: u32,
+) -> Result<i32, StoreFault>
+    requires { S.ordered store.now }
+    ensures { IntegerRead (S.meaning store.now) slices.entry.handles.now index result }
 {
-    let mut bits = [0i64; MOST_SLICES];
-    for (j, slice) in slices.iter().enumerate() {
-        bits[j] = store.value(*slice, index)? as i64;
+    let mut bits = SignedSum::new();
+    for slice in slices.handles {
+        bits.add(store.value(*slice, index)?.into());
     }
-    Ok(signed_sum(&bits[..slices.len()]) as i32)
+    Ok(bits.total() as i32)
 }
 
 /// The quadruple of four columns at an index.
+#[tactic(auto, using(crate::proofs::Numbers::a_refused, crate::proofs::Numbers::b_refused, crate::proofs::Numbers::c_refused, crate::proofs::Numbers::d_refused))]
 pub fn quadruple<S: FunctionStore>(
     store: &S,
     slices: Slices,
     index: u32,
 ) -> Result<Quadruple, StoreFault>
-    requires order { S.ordered store.now }
-    requires fits { ColumnsFit slices }
+    requires { S.ordered store.now }
     ensures { QuadrupleRead (S.meaning store.now) slices.entry index result }
 {
     let a = integer(store, slices.a, index)?;
@@ -38,14 +41,14 @@ pub fn quadruple<S: FunctionStore>(
 }
 
 /// The amplitude at an index of a state in four columns with this power.
+#[tactic(auto, using(crate::proofs::Numbers::amplitude_refused, crate::proofs::Numbers::amplitude_read))]
 pub fn amplitude<S: FunctionStore>(
     store: &S,
     slices: Slices,
     power: RootTwoPower,
     index: u32,
 ) -> Result<Amplitude, StoreFault>
-    requires order { S.ordered store.now }
-    requires fits { ColumnsFit slices }
+    requires { S.ordered store.now }
     ensures { AmplitudeRead (S.meaning store.now) slices.entry power index result }
 {
     let quadruple = quadruple(store, slices, index)?;

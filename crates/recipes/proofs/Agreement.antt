@@ -66,7 +66,7 @@ abbrev matrix_expr : Gate → Index → Component → Expr
 matrix_expr g r k = component_expr k (small_expr g r)
 
 abbrev normals : (Component → Expr) → List Poly
-normals e = normal (e A) ∷ (normal (e B) ∷ (normal (e C) ∷ (normal (e D) ∷ [])))
+normals e = normal (e A) ∷ normal (e B) ∷ normal (e C) ∷ normal (e D) ∷ []
 
 -- at all settings; a further gate is a further line
 agree : (g : Gate) → listing (qubits_of g) (λ r. normals (recipe_expr g r)) ≡ listing (qubits_of g) (λ r. normals (matrix_expr g r))

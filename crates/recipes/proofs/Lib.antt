@@ -4,3 +4,4 @@ pub mod Agreement
 pub mod Applied
 pub mod Openings
 pub mod Sufficient
+pub mod Computing

@@ -1,5 +1,6 @@
 -- The last product of an opening is 1 exactly at its index, and gives the opened register's columns.
 use Rattle.std.proofs.Common.{◌≡◌, ℕ, zero, suc, ◌^◌, ◌<◌, ◌≤◌, Bool, true, false, cond, ◌&&◌, [], ◌∷◌, length, pos, ◌+ℤ◌, ◌*ℤ◌, neg_ℤ, sym, refl, ap, ◌∙◌, subst, ap₂, arith}
+use Rattle.std.proofs.Math.Bool.{and_assoc, and-true}
 use mathlib.Core.Bool.{beq}
 use Rattle.exact.specs.Indices.{Index, number, listing, at_index, bit, same_index}
 use Rattle.exact.specs.Quadruples.{zero_quadruple, one_quadruple}
@@ -61,22 +62,14 @@ same_below : ℕ → Index → Index → Bool
 same_below zero y x = true
 same_below (suc q) y x = beq (bit y q) (bit x q) && same_below q y x
 
-and_assoc : (a b c : Bool) → ((a && b) && c) ≡ (a && (b && c))
-and_assoc true b c = refl
-and_assoc false b c = refl
-
 and_swap : (a b c : Bool) → (a && (b && c)) ≡ (b && (a && c))
 and_swap true b c = refl
 and_swap false true c = refl
 and_swap false false c = refl
 
-and_true : (a : Bool) → (a && true) ≡ a
-and_true true = refl
-and_true false = refl
-
 product_at : (n : ℕ) (x : Index) (q : ℕ) (f : Table) (y : Index) → length y ≡ n → value_at (product_from n x q f) y ≡ (value_at f y && same_below q y x)
 unfolding product_from same_below
-product_at n x zero f y e = sym (and_true (value_at f y))
+product_at n x zero f y e = sym (and-true (value_at f y))
 product_at n x (suc q) f y e =
     product_at n x q (narrowed n f q (bit x q)) y e
     ∙ ap (λ (b : Bool). b && same_below q y x) (narrowed_at n f q (bit x q) y e)

@@ -82,7 +82,7 @@ repeated_within : (ss u : List Table) → AllAmong ss u → AllAmong (repeated s
 unfolding repeated
 repeated_within [] u h = none_within u
 repeated_within (f ∷ []) u h = more_within f (f ∷ []) u (head_within f [] u h) h
-repeated_within (f ∷ (g ∷ ss)) u h = more_within f (repeated (g ∷ ss)) u (head_within f (g ∷ ss) u h) (repeated_within (g ∷ ss) u (tail_within f (g ∷ ss) u h))
+repeated_within (f ∷ g ∷ ss) u h = more_within f (repeated (g ∷ ss)) u (head_within f (g ∷ ss) u h) (repeated_within (g ∷ ss) u (tail_within f (g ∷ ss) u h))
 
 drop_within : (ss u : List Table) → AllAmong ss u → AllAmong (drop 1 ss) u
 drop_within [] u h = none_within u
@@ -103,7 +103,7 @@ unfolding sums_from sums_plan slice_plan
 sums_within n e c [] qs u h = none_within u
 sums_within n e c (p ∷ ps) [] u h = none_within u
 sums_within n e c (p ∷ ps) (q ∷ qs) u h =
-    let k : AllAmong (slice_sum n p q e c ∷ (next_carry n p q e c ∷ sums_plan n e (next_carry n p q e c) ps qs)) u = tail_within (turned n q e) _ u h in
+    let k : AllAmong (slice_sum n p q e c ∷ next_carry n p q e c ∷ sums_plan n e (next_carry n p q e c) ps qs) u = tail_within (turned n q e) _ u h in
     more_within (slice_sum n p q e c) _ u (head_within (slice_sum n p q e c) _ u k)
     (sums_within n e (next_carry n p q e c) ps qs u (tail_within (next_carry n p q e c) _ u (tail_within (slice_sum n p q e c) _ u k)))
 

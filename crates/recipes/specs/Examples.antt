@@ -19,7 +19,7 @@ x_on_1 = record { gate = X; qubits = 1 ∷ [] }
 
 -- (|00⟩ − |01⟩ − |10⟩ − |11⟩)/2
 abbrev pub three_negative : State
-three_negative = state 2 (𝟏 ∷ (−𝟏 ∷ (−𝟏 ∷ (−𝟏 ∷ []))))
+three_negative = state 2 (𝟏 ∷ −𝟏 ∷ −𝟏 ∷ −𝟏 ∷ [])
 
 pub record PlanExamples : Type 0 where
   pub one_qubit_open_0 : needed 1 [] (opening_plan 1 (bits 1 0)) ≡ 2

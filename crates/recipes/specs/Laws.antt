@@ -19,7 +19,7 @@ unfoldable pub AllAmong : List Table → List Table → Type 0
 AllAmong a b = (f : Table) → among f a ≡ true → among f b ≡ true
 
 abbrev pub constants : ℕ → List Table
-constants n = constant n false ∷ (constant n true ∷ [])
+constants n = constant n false ∷ constant n true ∷ []
 
 -- Every recipe is its gate's matrix: on any columns of any width, at any qubits of any register.
 pub record RecipeLaws : Type 0 where

@@ -33,7 +33,7 @@ narrowed n f q false = choice n (literal n q) (constant n false) f
 -- from qubit q−1 down to 0, where f is the product so far: what is made, and the last product
 unfoldable pub opening_from : ℕ → Index → ℕ → Table → List Table
 opening_from n x zero f = []
-opening_from n x (suc q) f = literal n q ∷ (narrowed n f q (bit x q) ∷ opening_from n x q (narrowed n f q (bit x q)))
+opening_from n x (suc q) f = literal n q ∷ narrowed n f q (bit x q) ∷ opening_from n x q (narrowed n f q (bit x q))
 
 unfoldable pub product_from : ℕ → Index → ℕ → Table → Table
 product_from n x zero f = f
@@ -50,14 +50,14 @@ abbrev pub opened_columns : ℕ → Index → Columns
 opened_columns n x A = zero_column n 2
 opened_columns n x B = zero_column n 2
 opened_columns n x C = zero_column n 2
-opened_columns n x D = opening_product n x ∷ (constant n false ∷ [])
+opened_columns n x D = opening_product n x ∷ constant n false ∷ []
 
 -- ---- gates
 -- the literals of the controls, and their product
 unfoldable pub literals_plan : ℕ → List ℕ → List Table
 literals_plan n [] = []
 literals_plan n (q ∷ []) = literal n q ∷ []
-literals_plan n (q ∷ (p ∷ qs)) = literal n q ∷ (literals_plan n (p ∷ qs) ++ (product_of_literals n (q ∷ (p ∷ qs)) ∷ []))
+literals_plan n (q ∷ p ∷ qs) = literal n q ∷ (literals_plan n (p ∷ qs) ++ (product_of_literals n (q ∷ p ∷ qs) ∷ []))
 
 unfoldable pub operand_plan : ℕ → ℕ → Table → Columns → Operand → List Table
 operand_plan n q c x Zero = []

@@ -54,18 +54,18 @@ term_of r D = r.d
 unfoldable pub target : List ℕ → ℕ
 target [] = zero
 target (q ∷ []) = q
-target (q ∷ (p ∷ qs)) = target (p ∷ qs)
+target (q ∷ p ∷ qs) = target (p ∷ qs)
 
 unfoldable pub controls : List ℕ → List ℕ
 controls [] = []
 controls (q ∷ []) = []
-controls (q ∷ (p ∷ qs)) = q ∷ controls (p ∷ qs)
+controls (q ∷ p ∷ qs) = q ∷ controls (p ∷ qs)
 
 -- the product of the literals of some qubits
 unfoldable pub product_of_literals : ℕ → List ℕ → Table
 product_of_literals n [] = constant n true
 product_of_literals n (q ∷ []) = literal n q
-product_of_literals n (q ∷ (p ∷ qs)) = both n (literal n q) (product_of_literals n (p ∷ qs))
+product_of_literals n (q ∷ p ∷ qs) = both n (literal n q) (product_of_literals n (p ∷ qs))
 
 -- An operand's column, a first carry and a new column, at the target q, with the product c of the controls' literals, of
 -- the columns x.

@@ -37,6 +37,7 @@ impl Recipe {
     }
 
     /// The new column of a component.
+    // Four fields: one generic struct for this, quadruples and columns would rename the fields that all definitions name.
     pub fn term(self, component: Component) -> Term
         ensures { result ≡ term_of self component }
     {

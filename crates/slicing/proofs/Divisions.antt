@@ -2,7 +2,7 @@
 use Rattle.std.proofs.Common.{◌≡◌, ℕ, zero, suc, ◌^◌, ◌<◌, ◌≤◌, Bool, true, false, cond, not, List, [], ◌∷◌, map, length, get_or, drop, ℤ, pos, ◌+ℤ◌, ◌*ℤ◌, sym, refl, ap, ◌∙◌, subst, ap₂, arith}
 use mathlib.Core.Bool.{false≢true}
 use lib.ListN.{length-map}
-use Rattle.std.proofs.lemmas.List.{get_or-map}
+use Rattle.std.proofs.lemmas.List.{get_or-map, length-drop}
 use Rattle.std.proofs.lemmas.Int.{ints}
 use Rattle.std.proofs.lemmas.Bool.{and_parts, and_from, or_parts, or_from}
 use Rattle.exact.specs.declared.Quadruple.{Quadruple}
@@ -144,10 +144,6 @@ unfolding integer_at bits_of
 integer_drop [] y h = absurd (let b : ⊥ = omega arith in b)
 integer_drop (f ∷ ss) y h = half_drop (value_at f y) (map (λ (g : Table). value_at g y) ss) (omega (arith, length-map ss (λ (g : Table). value_at g y)))
 
-length_drop_1 : {X : Type 0} (l : List X) (w : ℕ) → length l ≡ suc w → length (drop 1 l) ≡ w
-length_drop_1 [] w h = absurd (let b : ⊥ = omega arith in b)
-length_drop_1 (x ∷ l) w h = omega arith
-
 functions_drop : (n : ℕ) (ss : Column) → AllFunctions n ss → AllFunctions n (drop 1 ss)
 functions_drop n [] h = tt
 functions_drop n (f ∷ ss) h = h.1
@@ -167,7 +163,7 @@ pub divided_stands : (n w : ℕ) (x : Columns) (v : List Quadruple) → 1 ≤ w 
 unfolding divided at_index
 divided_stands n w x v some r = record {
   listed = length-map v over-√2 ∙ r.listed;
-  wide = λ k. length_drop_1 (summed n (all_repeated x) (root_sum k)) w (length_summed n w x v some r (root_sum k));
+  wide = λ k. omega (arith, length-drop 1 (summed n (all_repeated x) (root_sum k)), length_summed n w x v some r (root_sum k));
   functions = λ k. functions_drop n (summed n (all_repeated x) (root_sum k)) (summed_functions n (all_repeated x) (root_sum k));
   integers = λ k y e.
       integer_drop (summed n (all_repeated x) (root_sum k)) y (omega (arith, length_summed n w x v some r (root_sum k)))

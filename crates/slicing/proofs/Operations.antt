@@ -1,5 +1,6 @@
 -- Operations on columns, at each index.
 use Rattle.std.proofs.Common.{◌≡◌, ℕ, zero, suc, ◌<◌, Bool, true, false, cond, not, ◌&&◌, ◌||◌, List, [], ◌∷◌, map, length, replicate, ℤ, pos, ◌+ℤ◌, ◌*ℤ◌, sym, refl, ap, ◌∙◌, ap₂, arith}
+use Rattle.std.proofs.Math.Bool.{and-true}
 use lib.ListN.{length-map, length-replicate}
 use Rattle.exact.specs.Indices.{Index, bit, with_bit}
 use Rattle.exact.proofs.Listings.{length_listing, listing_same, at_listing}
@@ -49,18 +50,14 @@ pub both_rule : (n : ℕ) (f g : Table) → combined n 128 f g (constant n true)
 unfolding conjunction both
 both_rule n f g =
     combined_128 n f g (constant n true)
-    ∙ listing_same n _ _ (λ y e. ap (λ (b : Bool). value_at f y && (value_at g y && b)) (constant_at n true y e) ∙ ap (λ (b : Bool). value_at f y && b) (one (value_at g y)))
-  where
-    one : (b : Bool) → (b && true) ≡ b
-    one true = refl
-    one false = refl
+    ∙ listing_same n _ _ (λ y e. ap (λ (b : Bool). value_at f y && (value_at g y && b)) (constant_at n true y e) ∙ ap (λ (b : Bool). value_at f y && b) (and-true (value_at g y)))
 
 -- ---- the top slice once more
 map_repeated : {X Y : Type 0} (f : X → Y) (l : List X) → map f (repeated l) ≡ repeated (map f l)
 unfolding repeated
 map_repeated f [] = refl
 map_repeated f (x ∷ []) = refl
-map_repeated f (x ∷ (y ∷ l)) = ap (λ (t : List _). f x ∷ t) (map_repeated f (y ∷ l))
+map_repeated f (x ∷ y ∷ l) = ap (λ (t : List _). f x ∷ t) (map_repeated f (y ∷ l))
 
 pub bits_repeated : (ss : Column) (y : Index) → bits_of (repeated ss) y ≡ repeated (bits_of ss y)
 unfolding bits_of
@@ -74,7 +71,7 @@ pub functions_repeated : (n : ℕ) (ss : Column) → AllFunctions n ss → AllFu
 unfolding repeated
 functions_repeated n [] h = tt
 functions_repeated n (f ∷ []) h = (h.0, (h.0, tt))
-functions_repeated n (f ∷ (g ∷ ss)) h = (h.0, functions_repeated n (g ∷ ss) h.1)
+functions_repeated n (f ∷ g ∷ ss) h = (h.0, functions_repeated n (g ∷ ss) h.1)
 
 -- ---- zeros
 zeros_replicated : (n w : ℕ) (y : Index) → length y ≡ n → bits_of (replicate w (constant n false)) y ≡ replicate w false
@@ -176,9 +173,9 @@ repeated_chosen n f [] [] l = refl
 repeated_chosen n f [] (q ∷ qs) l = absurd (let b : ⊥ = omega arith in b)
 repeated_chosen n f (p ∷ ps) [] l = absurd (let b : ⊥ = omega arith in b)
 repeated_chosen n f (p ∷ []) (q ∷ []) l = refl
-repeated_chosen n f (p ∷ []) (q ∷ (s ∷ qs)) l = absurd (let b : ⊥ = omega arith in b)
-repeated_chosen n f (p ∷ (r ∷ ps)) (q ∷ []) l = absurd (let b : ⊥ = omega arith in b)
-repeated_chosen n f (p ∷ (r ∷ ps)) (q ∷ (s ∷ qs)) l = ap (λ (ss : Column). choice n f p q ∷ ss) (repeated_chosen n f (r ∷ ps) (s ∷ qs) (omega arith))
+repeated_chosen n f (p ∷ []) (q ∷ s ∷ qs) l = absurd (let b : ⊥ = omega arith in b)
+repeated_chosen n f (p ∷ r ∷ ps) (q ∷ []) l = absurd (let b : ⊥ = omega arith in b)
+repeated_chosen n f (p ∷ r ∷ ps) (q ∷ s ∷ qs) l = ap (λ (ss : Column). choice n f p q ∷ ss) (repeated_chosen n f (r ∷ ps) (s ∷ qs) (omega arith))
 
 -- ---- flipped
 same_lengths : (n q : ℕ) (ss : Column) → length (fixed_column n q false ss) ≡ length (fixed_column n q true ss)

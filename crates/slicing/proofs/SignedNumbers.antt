@@ -31,7 +31,7 @@ unfolding signed_number signed_sum repeated
 number_repeated [] = refl
 number_repeated (true ∷ []) = refl
 number_repeated (false ∷ []) = refl
-number_repeated (b ∷ (c ∷ bs)) =
+number_repeated (b ∷ c ∷ bs) =
     sum_more bit_number b (repeated (c ∷ bs)) (omega (arith, length_repeated_more c bs))
     ∙ ap (λ (z : ℤ). bit_number b +ℤ pos 2 *ℤ z) (number_repeated (c ∷ bs))
 
@@ -112,7 +112,7 @@ unfolding signed_number signed_bits signed_sum
 bits_of_number [] = refl
 bits_of_number (true ∷ []) = refl
 bits_of_number (false ∷ []) = refl
-bits_of_number (s ∷ (t ∷ bs)) =
+bits_of_number (s ∷ t ∷ bs) =
     ap₂ (λ (b : Bool) (l : List Bool). b ∷ l)
     (odd_more s (signed_number (t ∷ bs)))
     (ap (signed_bits (length (t ∷ bs))) (half_more s (signed_number (t ∷ bs))) ∙ bits_of_number (t ∷ bs))
@@ -126,7 +126,7 @@ unfolding signed_number signed_sum
 number_fits_more true [] = fits_in 0 (signed_number (true ∷ [])) (omega arith)
 number_fits_more false [] = fits_in 0 (signed_number (false ∷ [])) (omega arith)
 number_fits_more s (t ∷ bs) =
-    fits_in (length (t ∷ bs)) (signed_number (s ∷ (t ∷ bs)))
+    fits_in (length (t ∷ bs)) (signed_number (s ∷ t ∷ bs))
     (twice_below _ _ (length bs) (mag_more s (signed_number (t ∷ bs))) (fits_out (length bs) (signed_number (t ∷ bs)) (number_fits_more t bs)))
 
 pub number_fits : (bs : List Bool) → 1 ≤ length bs → EntryFits (length bs) (signed_number bs)

@@ -25,23 +25,23 @@ take_same : (bs : List Bool) (w : ℕ) → suc w < length bs → get_or bs w fal
 unfolding signed_number signed_sum
 take_same [] w l e = absurd (let b : ⊥ = omega arith in b)
 take_same (b ∷ []) w l e = absurd (let b : ⊥ = omega arith in b)
-take_same (b ∷ (c ∷ bs)) zero l e = ap (λ (t : Bool). bit_number b +ℤ pos 2 *ℤ neg_ℤ (bit_number t)) (sym e) ∙ one b
+take_same (b ∷ c ∷ bs) zero l e = ap (λ (t : Bool). bit_number b +ℤ pos 2 *ℤ neg_ℤ (bit_number t)) (sym e) ∙ one b
   where
     one : (b : Bool) → bit_number b +ℤ pos 2 *ℤ neg_ℤ (bit_number b) ≡ neg_ℤ (bit_number b)
     one true = refl
     one false = refl
-take_same (b ∷ (c ∷ bs)) (suc w) l e = ap (λ (z : ℤ). bit_number b +ℤ pos 2 *ℤ z) (take_same (c ∷ bs) w (omega arith) e)
+take_same (b ∷ c ∷ bs) (suc w) l e = ap (λ (z : ℤ). bit_number b +ℤ pos 2 *ℤ z) (take_same (c ∷ bs) w (omega arith) e)
 
 -- where the number fits one bit less, the top bits are equal
 fits_same : (bs : List Bool) (w : ℕ) → suc w < length bs → EntryFits (suc w) (signed_number (take (suc (suc w)) bs)) → get_or bs w false ≡ get_or bs (suc w) false
 unfolding signed_number signed_sum
 fits_same [] w l f = absurd (let b : ⊥ = omega arith in b)
 fits_same (b ∷ []) w l f = absurd (let b : ⊥ = omega arith in b)
-fits_same (true ∷ (true ∷ bs)) zero l f = refl
-fits_same (true ∷ (false ∷ bs)) zero l f = absurd (let g = fits_out 0 (pos 1) f in let b : ⊥ = omega arith in b)
-fits_same (false ∷ (true ∷ bs)) zero l f = absurd (let g = fits_out 0 (pos 0 +ℤ pos 2 *ℤ neg_ℤ (pos 1)) f in let b : ⊥ = omega arith in b)
-fits_same (false ∷ (false ∷ bs)) zero l f = refl
-fits_same (b ∷ (c ∷ bs)) (suc w) l f =
+fits_same (true ∷ true ∷ bs) zero l f = refl
+fits_same (true ∷ false ∷ bs) zero l f = absurd (let g = fits_out 0 (pos 1) f in let b : ⊥ = omega arith in b)
+fits_same (false ∷ true ∷ bs) zero l f = absurd (let g = fits_out 0 (pos 0 +ℤ pos 2 *ℤ neg_ℤ (pos 1)) f in let b : ⊥ = omega arith in b)
+fits_same (false ∷ false ∷ bs) zero l f = refl
+fits_same (b ∷ c ∷ bs) (suc w) l f =
     let z : ℤ = signed_number (take (suc (suc w)) (c ∷ bs)) in
     fits_same (c ∷ bs) w (omega arith) (fits_in w z (less (mag (bit_number b +ℤ pos 2 *ℤ z)) (mag z) w (mag_more b z) (fits_out (suc w) (bit_number b +ℤ pos 2 *ℤ z) f)))
   where

@@ -60,4 +60,4 @@ unfoldable pub reduction_plan : ℕ → ℕ → Columns → List Table
 reduction_plan n zero x = []
 reduction_plan n (suc k) x =
     let more = for_each (λ c. summed_plan n (all_repeated x) (root_sum c)) (reduction_plan n k (divided n x)) in
-    odd_a_c n x ∷ (odd_b_d n x ∷ cond (divisible n x) more [])
+    odd_a_c n x ∷ odd_b_d n x ∷ cond (divisible n x) more []

@@ -7,7 +7,7 @@ use Rattle.functions.specs.Tables.{digit}
 unfoldable pub signed_sum : {X : Type 0} → (X → ℤ) → List X → ℤ
 signed_sum f [] = pos 0
 signed_sum f (s ∷ []) = neg_ℤ (f s)
-signed_sum f (s ∷ (t ∷ rest)) = f s +ℤ pos 2 *ℤ signed_sum f (t ∷ rest)
+signed_sum f (s ∷ t ∷ rest) = f s +ℤ pos 2 *ℤ signed_sum f (t ∷ rest)
 
 abbrev pub bit_number : Bool → ℤ
 bit_number b = pos (digit b)
@@ -36,5 +36,5 @@ place w j = cond (top w j) (neg_ℤ (pos (2 ^ j))) (pos (2 ^ j))
 -- the last element once more: for the bits of an integer, its sign at one place more
 unfoldable pub repeated : {X : Type 0} → List X → List X
 repeated [] = []
-repeated (x ∷ []) = x ∷ (x ∷ [])
-repeated (x ∷ (y ∷ rest)) = x ∷ repeated (y ∷ rest)
+repeated (x ∷ []) = x ∷ x ∷ []
+repeated (x ∷ y ∷ rest) = x ∷ repeated (y ∷ rest)

@@ -22,6 +22,7 @@ pub enum Component {
 
 impl Component {
     /// This component of a quadruple.
+    // Four fields: one generic struct for this, recipes and columns would rename the fields that all definitions name.
     pub fn of(self, quadruple: Quadruple) -> i32
         ensures { result ≡ component self quadruple }
     {

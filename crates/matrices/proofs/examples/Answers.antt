@@ -1,15 +1,11 @@
 use Rattle.std.proofs.Common.{refl}
 use Rattle.std.specs.Fmt.{digits}
-use Rattle.exact.specs.Indices.{number, bits, listing, total, at_index, bits_at, with_setting, same_index}
-use Rattle.exact.specs.States.{some_odd_sum, reduced, bits_within, width}
-use Rattle.exact.specs.Squares.{sum_of_squares}
 use Rattle.exact.specs.Shares.{nearest, share}
-use Rattle.matrices.specs.Gates.{entry}
-use Rattle.matrices.specs.Registers.{new_at, applied, moved, opened, led}
+use Rattle.matrices.proofs.Computing.{a_register}
 use Rattle.matrices.proofs.examples.Goals as goal
 
 pub returns : goal.returns
-unfolding number bits listing total at_index bits_at with_setting same_index some_odd_sum reduced bits_within width sum_of_squares nearest share digits entry new_at applied moved opened led
+unfolding a_register nearest share digits
 returns c = record {
   open_0 = refl;
   open_0_width = refl;

@@ -1,7 +1,8 @@
-use Rattle.std.proofs.Common.{◌≡◌, length}
-use Rattle.readings.specs.Bounds.{AllWithin}
+use Rattle.std.proofs.Common.{List, ℤ}
+use Rattle.readings.proofs.Adding.{Running}
 use Rattle.readings.proofs.Numbers.{Reading}
 use Rattle.readings.proofs.amplitudes.integer.Given as goal
 
-abbrev pub invariant-loop-j : goal.invariant-loop-j
-invariant-loop-j g l = Reading (g.S.FunctionStore.meaning l.store) l.slices l.index l.bits l.j × (length l.bits ≡ 22) × AllWithin 1 l.bits
+-- the bits so far
+abbrev pub invariant-loop-slice : goal.invariant-loop-slice
+invariant-loop-slice g l = (bits : List ℤ) × Running 1 l.bits bits l.slice-index × Reading (g.S.FunctionStore.meaning l.store) l.slices.handles.now l.index bits l.slice-index
