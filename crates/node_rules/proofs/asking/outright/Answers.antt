@@ -1,6 +1,6 @@
 use Rattle.std.proofs.Common.{arith}
 use Rattle.node_rules.proofs.Simplifying.{plain_zero, plain_one, plain_first, plain_second, plain_third, mixed}
-use Rattle.node_rules.proofs.combination.Combination.outright.Goals as goal
+use Rattle.node_rules.proofs.asking.outright.Goals as goal
 
 pub returns-in-0 : goal.returns-in-0
 returns-in-0 c = plain_zero _ c.in-0.is
@@ -18,4 +18,4 @@ pub returns-in-170 : goal.returns-in-170
 returns-in-170 c = plain_third _ c.in-170.is
 
 pub returns-in_default : goal.returns-in_default
-returns-in_default c = mixed c.args.self.rule (omega arith) (λ e. omega arith) (λ e. omega arith) (λ e. omega arith) (λ e. omega arith) (λ e. omega arith)
+returns-in_default c = mixed c.args.asked.rule (omega arith) (λ e. omega arith) (λ e. omega arith) (λ e. omega arith) (λ e. omega arith) (λ e. omega arith)
