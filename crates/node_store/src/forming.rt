@@ -5,8 +5,9 @@ ghost use Rattle.diagrams.specs.Forming.{combination, fixing};
 ghost use Rattle.node_store.specs.Orders.{diagram, half_of, Ordered, Forms, Halved};
 
 use crate::store::NodeStore;
+use functions::Combination;
 use node_answers::{Fixing, Question};
-use node_rules::Combination;
+use node_rules::{outright, simplified};
 
 impl NodeStore {
     // Three handles combined: those of the halves where the first qubit that matters is 0 and where it is 1, joined. `None`
@@ -16,8 +17,8 @@ impl NodeStore {
         requires held { Held (diagram self.old) asked.f × Held (diagram self.old) asked.g × Held (diagram self.old) asked.h }
         ensures { Forms self.old self.new (combination (diagram self.old) asked.rule asked.f asked.g asked.h) result }
     {
-        let simple = asked.simplified();
-        if let Some(r) = simple.outright() {
+        let simple = simplified(asked);
+        if let Some(r) = outright(simple) {
             return Some(r);
         }
         if let Some(r) = self.remembered.recall(Question::Combined(simple)) {

@@ -7,9 +7,8 @@ ghost use Rattle.node_store.specs.Orders.{diagram, node_meaning, Ordered, Tried,
 
 use crate::store::NodeStore;
 use exact::Qubit;
-use functions::StoreFault;
+use functions::{Combination, StoreFault};
 use node_answers::Fixing;
-use node_rules::Combination;
 
 impl NodeStore {
     /// The function that is qubit q's bit.
