@@ -72,9 +72,7 @@ same_parts p q = int_eq p.a q.a && (int_eq p.b q.b && (int_eq p.c q.c && int_eq 
 
 pub equals : (r : Bool) (p q : Quadruple) → r ≡ same_parts p q → Decides r (p ≡ q)
 equals r p q h =
-    let d = Decides-and (int_eq p.a q.a) (int_eq p.b q.b && (int_eq p.c q.c && int_eq p.d q.d)) (Decides-int_eq p.a q.a)
-    (Decides-and (int_eq p.b q.b) (int_eq p.c q.c && int_eq p.d q.d) (Decides-int_eq p.b q.b)
-    (Decides-and (int_eq p.c q.c) (int_eq p.d q.d) (Decides-int_eq p.c q.c) (Decides-int_eq p.d q.d))) in (
-      λ e. let t = d.0 (sym h ∙ e) in quadruple_path (t.0) (t.1.0) (t.1.1.0) (t.1.1.1),
+    let d = Decides-and _ _ (Decides-int_eq p.a q.a) (Decides-and _ _ (Decides-int_eq p.b q.b) (Decides-and _ _ (Decides-int_eq p.c q.c) (Decides-int_eq p.d q.d))) in (
+      λ e. let t = d.0 (sym h ∙ e) in quadruple_path t.0 t.1.0 t.1.1.0 t.1.1.1,
       λ e. h ∙ d.1 (ap (λ (x : Quadruple). x.a) e, (ap (λ (x : Quadruple). x.b) e, (ap (λ (x : Quadruple). x.c) e, ap (λ (x : Quadruple). x.d) e))),
     )

@@ -1,10 +1,10 @@
 -- Halves of sums of signed 32-bit numbers, computed in 64 bits.
-use Rattle.std.proofs.Common.{◌≡◌, ℕ, suc, ◌-◌, ◌/◌, ◌%◌, ◌^◌, ◌<◌, Bool, true, false, cond, ℤ, pos, negsuc, ◌+ℤ◌, ◌-ℤ◌, neg_ℤ, Some, None, sym, refl, ap, ◌∙◌, subst, ap₂, arith, w32, w64, SFits, to_z, of_z}
+use Rattle.std.proofs.Common.{◌≡◌, ℕ, suc, ◌-◌, ◌/◌, ◌%◌, ◌^◌, ◌<◌, Bool, true, false, cond, ℤ, pos, negsuc, ◌+ℤ◌, ◌-ℤ◌, neg_ℤ, Some, None, sym, refl, ap, ◌∙◌, ap₂, arith, w32, w64, SFits, to_z, of_z}
 use lib.IntN.{+ℤ_comm}
 use lib.Signed.{mag, quot_z, rem_z}
 use borrow.Author.Differences.{ints}
 use Rattle.std.proofs.lemmas.Int.{to_z-of_z}
-use Rattle.std.proofs.lemmas.Bool.{eqb-false, eq-eqb, ne_eqb, or_from}
+use Rattle.std.proofs.lemmas.Bool.{eqb-false, ne_eqb, or_from}
 use Rattle.exact.specs.declared.Quadruple.{Quadruple}
 use Rattle.exact.specs.Quadruples.{quadruple, half, odd, over-√2, division, half_sum}
 use Rattle.exact.proofs.Integers.{range_from, range_to}
@@ -34,13 +34,6 @@ rest_even (negsuc n) e = ne_eqb (suc n % 2) 1 (λ h. go (suc n % 2) h e)
     go : (m : ℕ) → m ≡ 1 → of_z w64 (neg_ℤ (pos m)) ≡ 0 → ⊥
     go m h e = let f : 2 ^ 64 - 1 ≡ 0 = ap (λ (k : ℕ). of_z w64 (neg_ℤ (pos k))) (sym h) ∙ e in omega arith
 
-rest_odd : (s : ℤ) → (of_z w64 (rem_z s (pos 2)) ≡ 0 → ⊥) → odd s ≡ true
-rest_odd (pos n) h = eq-eqb (n % 2) 1 (omega arith)
-rest_odd (negsuc n) h = eq-eqb (suc n % 2) 1 (go (suc n % 2) (omega arith) (λ e. h (ap (λ (k : ℕ). of_z w64 (neg_ℤ (pos k))) e)))
-  where
-    go : (m : ℕ) → m < 2 → (m ≡ 0 → ⊥) → m ≡ 1
-    go m l k = omega arith
-
 quotient_half : (s : ℤ) → odd s ≡ false → quot_z s (pos 2) ≡ half s
 quotient_half (pos n) e = refl
 quotient_half (negsuc n) e = ap (λ (m : ℕ). neg_ℤ (pos m)) (go n (eqb-false (suc n % 2) 1 e))
@@ -63,12 +56,6 @@ even_sum x y f g e =
     ap (λ (t : ℤ). Some (to_z w32 (of_z w32 (to_z w64 (of_z w64 t))))) (ap (λ (t : ℤ). quot_z t (pos 2)) s ∙ quotient_half (x +ℤ y) o)
     ∙ ap (λ (t : ℤ). Some t) (narrow (half (x +ℤ y)) (half_small (x +ℤ y) (sum_small x y f g)))
     ∙ ap (λ (b : Bool). cond b None (Some (half (x +ℤ y)))) (sym o)
-
-pub odd_total : (x y : ℤ) → SFits w32 x → SFits w32 y → (of_z w64 (rem_z (wide_sum x y) (pos 2)) ≡ 0 → ⊥) → None ≡ half_sum x y
-odd_total x y f g h =
-    let s : wide_sum x y ≡ x +ℤ y = wide_sum_is x y f g in
-    let o : odd (x +ℤ y) ≡ true = rest_odd (x +ℤ y) (λ e. h (ap (λ (t : ℤ). of_z w64 (rem_z t (pos 2))) s ∙ e)) in
-    ap (λ (b : Bool). cond b None (Some (half (x +ℤ y)))) (sym o)
 
 -- ---- what an answer says
 record Even (x y h : ℤ) : Type 0 where
@@ -112,19 +99,10 @@ passed z = to_z w32 (of_z w32 z)
 even : (x y h : ℤ) → SFits w32 x → SFits w32 y → Some h ≡ half_sum (passed x) (passed y) → Even x y h
 even x y h f g e = was_even x y h (e ∙ ap₂ half_sum (to_z-of_z w32 x f) (to_z-of_z w32 y g))
 
-difference_fits : (h y : ℤ) → SFits w32 h → SFits w32 y → SFits w32 (h -ℤ y) → SFits w32 (passed h -ℤ passed y)
-difference_fits h y f g = subst (SFits w32) (ap₂ (λ (s t : ℤ). s -ℤ t) (sym (to_z-of_z w32 h f)) (sym (to_z-of_z w32 y g)))
-
 difference_is : (h y : ℤ) → SFits w32 h → SFits w32 y → SFits w32 (h -ℤ y) → passed (passed h -ℤ passed y) ≡ h -ℤ y
 difference_is h y f g k = ap passed (ap₂ (λ (s t : ℤ). s -ℤ t) (to_z-of_z w32 h f) (to_z-of_z w32 y g)) ∙ to_z-of_z w32 (h -ℤ y) k
 
 module _ (x y h : ℤ) (f : SFits w32 x) (g : SFits w32 y) (k : SFits w32 h) (e : Some h ≡ half_sum (passed x) (passed y)) where
-  pub lower_fits : SFits w32 (passed h -ℤ passed y)
-  lower_fits = difference_fits h y k g (within x y h f g (double_of x y h (even x y h f g e)))
-
-  pub upper_fits : SFits w32 (passed h -ℤ passed x)
-  upper_fits = difference_fits h x k f (within y x h g f (double_of x y h (even x y h f g e) ∙ +ℤ_comm x y))
-
   lower_is : passed (passed h -ℤ passed y) ≡ half (x -ℤ y)
   lower_is = difference_is h y k g (within x y h f g (double_of x y h (even x y h f g e))) ∙ lower_half x y h (even x y h f g e)
 

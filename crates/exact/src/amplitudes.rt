@@ -46,7 +46,7 @@ impl fmt::Display for Quadruple {
 }
 
 impl Amplitude {
-    /// Whether both are the same number, whatever their powers.
+    /// Whether both are the same number, whatever their powers; `==` compares the parts.
     pub fn same_as(self, other: Amplitude) -> bool
         ensures { Decides result (SameAmplitude self other) }
     {

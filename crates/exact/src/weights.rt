@@ -9,6 +9,8 @@ use std::fmt;
 
 impl RootTwoPower {
     /// The power of 2 that divides the squares of amplitudes of this power.
+    //
+    // No `From`: a conversion without a name is how one kind of power is taken for the other.
     pub fn of_squares(self) -> TwoPower
         ensures { result ≡ power_of_squares self }
     {

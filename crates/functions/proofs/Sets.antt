@@ -118,12 +118,6 @@ space_mono n a b sub = different_mono (without_constants n a) (without_constants
     kept true q c s e = ap (λ (t : Bool). t && c) (s refl) ∙ e
     kept false q c s e = absurd (false≢true e)
 
-pub space_same : (n : ℕ) (a b : List Table) → ((g : Table) → among g a ≡ among g b) → space n a ≡ space n b
-space_same n a b e =
-    let l : space n a ≤ space n b = space_mono n a b (λ g h. sym (e g) ∙ h) in
-    let m : space n b ≤ space n a = space_mono n b a (λ g h. e g ∙ h) in
-    omega arith
-
 -- a list takes no more space than it is long
 different_long : (l : List Table) → different l ≤ length l
 unfolding different

@@ -1,18 +1,12 @@
 -- The values of functions at indices, and functions with the same values.
-use Rattle.std.proofs.Common.{◌≡◌, ℕ, ◌^◌, ◌<◌, Bool, false, length, get_or, sym, ap, ◌∙◌}
-use Rattle.exact.specs.Indices.{Index, bit, with_bit, bits, at_index}
+use Rattle.std.proofs.Common.{◌≡◌, ℕ, ◌^◌, Bool, false, length, sym, ◌∙◌}
+use Rattle.exact.specs.Indices.{Index, bit, with_bit, at_index}
 use Rattle.exact.proofs.Listings.{length_listing, listing_same, at_listing, listing_own}
-use Rattle.exact.proofs.Tables.{number_of_bits}
 use Rattle.functions.specs.Tables.{Table, value_at, constant, literal, fixed, ruled, combined}
 
 -- functions of n qubits that have the same value at every index are equal
 pub same_values : (n : ℕ) (f g : Table) → length f ≡ 2 ^ n → length g ≡ 2 ^ n → ((x : Index) → length x ≡ n → value_at f x ≡ value_at g x) → f ≡ g
 same_values n f g l m h = sym (listing_own false n f l) ∙ listing_same n (at_index false f) (at_index false g) h ∙ listing_own false n g m
-
--- the value at the index of a number is the element of that number
-pub value_by_number : (n i : ℕ) (f : Table) → i < 2 ^ n → value_at f (bits n i) ≡ get_or f i false
-unfolding at_index
-value_by_number n i f h = ap (λ (j : ℕ). get_or f j false) (number_of_bits n i h)
 
 pub length_constant : (n : ℕ) (b : Bool) → length (constant n b) ≡ 2 ^ n
 unfolding constant

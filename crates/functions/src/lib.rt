@@ -22,7 +22,8 @@ pub trait FunctionStore {
     // n, the limit, the rule of parts, and the functions held with their handles
     ghost meaning: { Self → Meaning };
 
-    // being in order: making a store gives it, and every call expects and keeps it
+    // being in order: making a store gives it, and every call expects and keeps it. It is a clause of each call and not an
+    // invariant of the type, because the interface leaves a store's type open.
     ghost ordered: { Self → Type 0 };
 
     /// The function that is qubit q's bit.

@@ -11,8 +11,5 @@ overflow_add-result c = let u = unit_range c.args.power.0 c.if-power-ge-LARGE_PO
 pub overflow_mul-result-2 : goal.overflow_mul-result-2
 overflow_mul-result-2 c = let u = unit_range c.args.power.0 c.if-power-ge-LARGE_POWER.false in record { fits = omega arith }
 
-pub nonzero_div-result : goal.nonzero_div-result
-nonzero_div-result c = let u = unit_range c.args.power.0 c.if-power-ge-LARGE_POWER.false in omega arith
-
 pub returns : goal.returns
 returns c = quotient c.args.whole c.args.power.0 c.if-power-ge-LARGE_POWER.false
