@@ -6,7 +6,7 @@ ghost use Rattle.node_store.specs.Orders.{Ordered};
 
 use anyhow::anyhow;
 use exact::Qubit;
-use functions::StoreFault;
+use functions::{FunctionStore, StoreFault};
 use node_store::NodeStore;
 
 /// A function and a way to make it.

@@ -1,6 +1,5 @@
 -- What a call that makes a function answers.
-use Rattle.std.proofs.Common.{◌≡◌, ℕ, ◌^◌, ◌<◌, ◌≤◌, length, Some, None, Ok, Err, Option, Result, sym, refl, ◌∙◌, subst, ap₂}
-use Rattle.functions.specs.declared.faults.StoreFault.{StoreFault}
+use Rattle.std.proofs.Common.{◌≡◌, ℕ, ◌^◌, ◌<◌, ◌≤◌, length, Some, None, Ok, Err, Option, sym, refl, ◌∙◌, subst, ap₂}
 use Rattle.functions.specs.declared.faults.StoreFault.TheVariants.{NoSpace}
 use Rattle.functions.specs.Tables.{Table}
 use Rattle.functions.specs.Meanings.{Meaning}

@@ -18,7 +18,7 @@ use Rattle.node_store.specs.declared.store.NodeStore.{NodeStore}
 use Rattle.node_store.specs.Orders.{diagram, Ordered, Forms}
 use Rattle.node_store.specs.Questions.{half_of, halved, Simplest, AtOnce, Positive}
 use Rattle.node_store.proofs.Simpler.{Covers, covers_self, simpler_covers, simpler_held, formed_plain, looks_at_node}
-use Rattle.node_store.proofs.Steps.{forms_there, forms_some, forms_none, low_stops, high_stops, low_there, high_there, node_stops, node_joined}
+use Rattle.node_store.proofs.Steps.{forms_some, forms_none, low_stops, high_stops, low_there, high_there, node_stops, node_joined}
 
 module _ (n : ℕ) (s : Diagram) (o : Reduced n s) where
   -- ---- the simplest form

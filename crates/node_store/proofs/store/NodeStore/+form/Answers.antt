@@ -1,4 +1,3 @@
-use Rattle.node_answers.specs.Answers.{asked}
 use Rattle.node_store.specs.Orders.{diagram}
 use Rattle.node_store.proofs.Steps.{forms_there, forms_some}
 use Rattle.node_store.proofs.Halving.{Begun, simplest_covers, simplest_given, simplest_positive, formed_at_once, some_height, lows_given, lows_fall, no_lows, highs_given_then, highs_fall, no_highs, low_joins, high_joins, height_joins, no_node, a_node}
@@ -77,4 +76,3 @@ returns t c =
     let b : Begun c.args.self.now c.args.question c.simplest-simple.result c.highest-height.result = record { order = c.requires.order; held = c.requires.held; positive = c.requires.positive; simplest = c.simplest-simple.ensures; unanswered = c.in_default.ensures; highest = c.highest-height.ensures } in
     let j = c.in_ok-r.ensures in
     a_node _ _ _ _ b _ _ c.halved-lows.ensures c.halved-highs.ensures c.form.new.self _ c.in_ok-low.ensures c.form-2.new.self _ c.in_ok-high.ensures c.join.new.self j.order j.grown c.in_ok-r.r j.joined c.remember.new.self c.remember.ensures.sound
-

@@ -1,13 +1,13 @@
-use Rattle.std.proofs.Common.{◌≡◌, Ok, Err, vec_len, sym, rules}
+use Rattle.std.proofs.Common.{◌≡◌, Ok, Err, vec_len, sym, rules, arith}
 use Rattle.node_store.specs.New.{store_check}
 use Rattle.node_store.proofs.Beginning.{passed_range, passed_means, failed_means, passed_words, failed_words}
 use Rattle.node_store.proofs.store.NodeStore.new.Goals as goal
 
 pub new-requires : goal.new-requires
-new-requires c = (passed_range _ _ (sym c.in-Ok.ensures)).0
+new-requires c = omega (arith, passed_range _ _ (sym c.in-Ok.ensures))
 
 pub invariant_of-new : goal.invariant_of-new
-invariant_of-new c = record { within = (passed_range _ _ (sym c.in-Ok.ensures)).1 }
+invariant_of-new c = record { within = omega (arith, passed_range _ _ (sym c.in-Ok.ensures)) }
 
 pub returns-in-Ok : goal.returns-in-Ok
 returns-in-Ok c =
