@@ -6,7 +6,7 @@ ghost use Rattle.node_store.specs.Orders.{Ordered};
 
 use anyhow::anyhow;
 use exact::Qubit;
-use functions::{rules, FunctionStore, StoreFault};
+use functions::{FunctionStore, StoreFault, rules};
 use node_store::NodeStore;
 
 fn main(rt: HostRuntime) -> anyhow::Result<()> {
@@ -21,7 +21,11 @@ fn run(rt: &HostRuntime) -> anyhow::Result<()> {
 }
 
 // Nodes and ones of a function, the least limit at which it can be made, and what a store of one node less does.
-fn report<F: Fn(&mut NodeStore) -> Result<u32, StoreFault>>(rt: &HostRuntime, name: &str, build: F) -> anyhow::Result<()>
+fn report<F: Fn(&mut NodeStore) -> Result<u32, StoreFault>>(
+    rt: &HostRuntime,
+    name: &str,
+    build: F,
+) -> anyhow::Result<()>
     requires callable { (x : _) → Ordered x.now → F.pre build x }
     requires keeps { (x r y : _) → Ordered x.now → F.post build x r y → Ordered y.now }
 {
@@ -47,7 +51,10 @@ fn report<F: Fn(&mut NodeStore) -> Result<u32, StoreFault>>(rt: &HostRuntime, na
 }
 
 // The least limit at which a function can be made; at least 1.
-fn least_limit<F: Fn(&mut NodeStore) -> Result<u32, StoreFault>>(rt: &HostRuntime, build: &F) -> anyhow::Result<u32>
+fn least_limit<F: Fn(&mut NodeStore) -> Result<u32, StoreFault>>(
+    rt: &HostRuntime,
+    build: &F,
+) -> anyhow::Result<u32>
     requires { (x : _) → Ordered x.now → F.pre build.now x }
     ensures { IfOk result (λ limit. 1 ≤ limit) }
 {
