@@ -1,6 +1,6 @@
 -- Marks go over what is reached.
-use Rattle.std.proofs.Common.{◌≡◌, ℕ, ◌<◌, ◌≤◌, Bool, true, false, eqb, ◌⊎◌, sym, refl, ap, ◌∙◌, subst, inl, inr, ⊎_elim, arith}
-use Rattle.std.proofs.lemmas.Bool.{cases_eq, eqb-true, eqb-false}
+use Rattle.std.proofs.Common.{◌≡◌, ℕ, ◌<◌, ◌≤◌, ◌⊎◌, sym, refl, ap, ◌∙◌, subst, inl, inr, ⊎_elim}
+use Rattle.std.proofs.lemmas.Bool.{cases_eq}
 use Rattle.diagrams.specs.Diagrams.{Diagram, Held, Reduced}
 use Rattle.diagrams.specs.Forming.{Alike}
 use Rattle.diagrams.specs.Reaching.{Reaches, itself, by_low, by_high}
@@ -50,25 +50,6 @@ pub reaches_alike : (s t : Diagram) → Alike s t → (h k : ℕ) → Reaches t 
 reaches_alike s t a h k itself = itself
 reaches_alike s t a h k (by_low p r) = let q : 0 < s.height h = rw (a.height h) at p in by_low q (subst (λ (j : ℕ). Reaches s j k) (a.low h q) (reaches_alike s t a (t.low h) k r))
 reaches_alike s t a h k (by_high p r) = let q : 0 < s.height h = rw (a.height h) at p in by_high q (subst (λ (j : ℕ). Reaches s j k) (a.high h q) (reaches_alike s t a (t.high h) k r))
-
-pub not_marked : (t : NodeTable) (h : ℕ) (b : Bool) → b ≡ eqb (mark t h) 1 → b ≡ false → mark t h ≡ 0
-not_marked t h b e f = let ne = eqb-false (mark t h) 1 (sym e ∙ f) in omega arith
-
-pub is_marked : (t : NodeTable) (h : ℕ) (b : Bool) → b ≡ eqb (mark t h) 1 → b ≡ true → mark t h ≡ 1
-is_marked t h b e f = eqb-true (mark t h) 1 (sym e ∙ f)
-
--- nothing is marked anew
-pub marks_nothing : (t : NodeTable) (h : ℕ) → Marked t h → Marks t t h
-marks_nothing t h m = record {
-  same = same_marks_self t;
-  root = m;
-  stays = λ k l f. f;
-  reached = λ k l z f. absurd (never k z f);
-  closed = λ k l z f. absurd (never k z f);
-}
-  where
-    never : (k : ℕ) → mark t k ≡ 0 → mark t k ≡ 1 → ⊥
-    never k z f = omega arith
 
 -- From s to a the node h is marked, from a to b what its low half reaches, and from b to t what its high half reaches.
 pub record Marking (s a b t : NodeTable) (h lo hi : ℕ) : Type 0 where
@@ -135,9 +116,6 @@ module _ (s a b t : NodeTable) (h lo hi : ℕ) (x : Marking s a b t h lo hi) whe
     reached = λ k l z f. reach k l (ways k l z f);
     closed = λ k l z f. close k l (ways k l z f);
   }
-
-pub setting_then : (s t u : NodeTable) → SameSetting s t → SameSetting t u → SameSetting s u
-setting_then s t u x y = record { qubits = y.qubits ∙ x.qubits; limit = y.limit ∙ x.limit }
 
 -- under other marks a diagram is reduced, and the halves of a node are held and lower
 pub record Remarked (s t : NodeTable) (h : ℕ) : Type 0 where
