@@ -1,5 +1,6 @@
 -- Answers that stay right while a diagram grows.
-use Rattle.std.proofs.Common.{ℕ}
+use Rattle.std.proofs.Common.{ℕ, Some, None, IfSome, Option}
+use Rattle.std.proofs.lemmas.List.Elements.{All-weaker}
 use Rattle.diagrams.specs.Diagrams.{Diagram, Reduced}
 use Rattle.diagrams.specs.Forming.{Keeps, Formed}
 use Rattle.diagrams.proofs.Canonical.{keeps_self, held_kept}
@@ -7,6 +8,7 @@ use Rattle.diagrams.proofs.Wanted.{SameWanted, same_back, combination_kept, fixi
 use Rattle.diagrams.proofs.Forming.{formed_again, formed_same}
 use Rattle.node_answers.specs.declared.question.Question.{Question}
 use Rattle.node_answers.specs.declared.question.Question.TheVariants.{Combined, Fixed}
+use Rattle.node_answers.specs.declared.answered.Answered.{Answered}
 use Rattle.node_answers.specs.declared.remembered.Remembered.{Remembered}
 use Rattle.node_answers.specs.Answers.{asked, Given, Right, Sound}
 
@@ -32,5 +34,9 @@ right_kept n s t o k q r x = record {
   formed = formed_same t t (asked s q) (asked t q) r (same_back (asked t q) (asked s q) (asked_kept n s t o k q x.given)) (formed_again n s s t (asked s q) r o k x.formed);
 }
 
+answer_kept : (n : ℕ) (s t : Diagram) → Reduced n s → Keeps s t → (e : Option Answered) → IfSome e (λ x. Right s x.question x.answer) → IfSome e (λ x. Right t x.question x.answer)
+answer_kept n s t o k (Some e) x = right_kept n s t o k e.question e.answer x
+answer_kept n s t o k None x = x
+
 pub sound_kept : (n : ℕ) (s t : Diagram) → Reduced n s → Keeps s t → (m : Remembered) → Sound s m → Sound t m
-sound_kept n s t o k m x = record { right = λ i none l e. right_kept n s t o k _ _ (x.right i none l e) }
+sound_kept n s t o k m x = All-weaker (λ e. IfSome e (λ x. Right s x.question x.answer)) (λ e. IfSome e (λ x. Right t x.question x.answer)) (answer_kept n s t o k) m.entries x

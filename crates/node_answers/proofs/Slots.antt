@@ -1,18 +1,16 @@
--- What holds of every slot of a table.
-use Rattle.std.proofs.Common.{◌≡◌, ℕ, ◌<◌, ◌≤◌, ◌⊎◌, List, length, get_or, set, replicate, sym, ap, ◌∙◌, subst, inl, inr}
-use Rattle.std.proofs.lemmas.List.{get_or-set_same, get_or-set_other, set_past, get_or-replicate}
-use Rattle.std.proofs.lemmas.Bool.{cases_eq, cases_lt}
+-- Slots of a table.
+use Rattle.std.proofs.Common.{◌≡◌, ℕ, ◌*◌, ◌<◌, Some, None, Option, get_or, replicate, sym, ◌∙◌, arith}
+use Rattle.std.proofs.lemmas.List.{get_or-replicate}
+use Rattle.node_answers.specs.declared.question.Question.{Question}
+use Rattle.node_answers.specs.Answers.{key, slot_of}
 
-module _ {A : Type 0} (n : ℕ) (P : A → Type 0) where
-  -- one slot written
-  pub in_slots : (es : List A) (p : ℕ) (e : A) → ((i : ℕ) (none : A) → i < n → P (get_or es i none)) → P e → (i : ℕ) (none : A) → i < n → P (get_or (set es p e) i none)
-  in_slots es p e x y i none l = go (cases_eq i p) (cases_lt p (length es))
-    where
-      go : (i ≡ p) ⊎ (i ≡ p → ⊥) → (p < length es) ⊎ (length es ≤ p) → P (get_or (set es p e) i none)
-      go (inl q) (inl m) = subst P (sym (ap (λ (z : ℕ). get_or (set es p e) z none) q ∙ get_or-set_same es p e none m)) y
-      go (inl q) (inr m) = subst (λ (z : List A). P (get_or z i none)) (sym (set_past es p e m)) (x i none l)
-      go (inr q) m = subst P (sym (get_or-set_other es p i e none q)) (x i none l)
+-- no slot of an empty table has anything
+pub nothing_in : {A : Type 0} (n i : ℕ) (x : A) → i < n → get_or (replicate n None) i None ≡ Some x → ⊥
+nothing_in {A = A} n i x l e = none_some (sym (get_or-replicate n i None None l) ∙ e)
+  where
+    none_some : ◌≡◌ {A = Option A} None (Some x) → ⊥
+    none_some e = let z : ◌≡◌ {A = ℕ} 0 1 = cc in omega arith
 
-  -- all slots the same
-  pub in_empty : (e : A) → P e → (i : ℕ) (none : A) → i < n → P (get_or (replicate n e) i none)
-  in_empty e y i none l = subst P (sym (get_or-replicate n i e none l)) y
+pub slot_below : (q : Question) → slot_of q < 4096
+unfolding slot_of
+slot_below q = let x = key q * 11400714819323198485 in omega arith

@@ -1,10 +1,9 @@
 -- Questions to a diagram, and answers that are right.
-use Rattle.std.specs.Prelude.{◌≡◌, ℕ, ◌<◌, slice_index_or}
+use Rattle.std.specs.Prelude.{◌≡◌, ℕ, ◌*◌, ◌/◌, ◌%◌, ◌^◌, cond, Some, None, IfSome, All, slice_index_or, bit_xor}
 use Rattle.diagrams.specs.Diagrams.{Diagram, Held}
 use Rattle.diagrams.specs.Forming.{Wanted, combination, fixing, Formed}
 use Rattle.node_answers.specs.declared.question.Question.{Question}
 use Rattle.node_answers.specs.declared.question.Question.TheVariants.{Combined, Fixed}
-use Rattle.node_answers.specs.declared.answered.Answered.{Answered}
 use Rattle.node_answers.specs.declared.remembered.Remembered.{Remembered}
 
 -- the function that is asked for
@@ -22,6 +21,19 @@ pub record Right (s : Diagram) (q : Question) (answer : ℕ) : Type 0 where
   pub given : Given s q
   pub formed : Formed s s (asked s q) answer
 
--- Every answer of the present generation is right.
-pub record Sound (s : Diagram) (m : Remembered) : Type 0 where
-  pub right : (i : ℕ) (none : Answered) → i < 4096 → (slice_index_or m.entries i none).generation ≡ m.generation → Right s (slice_index_or m.entries i none).question (slice_index_or m.entries i none).answer
+-- the fields of a question in one number
+unfoldable pub key : Question → ℕ
+key (Combined c) = bit_xor (bit_xor (bit_xor c.f (c.g * 2 ^ 17 % 2 ^ 64)) (c.h * 2 ^ 34 % 2 ^ 64)) (c.rule * 2 ^ 55 % 2 ^ 64)
+key (Fixed x) = bit_xor (bit_xor (bit_xor x.f (x.height * 2 ^ 17 % 2 ^ 64)) (cond x.bit 1 0 * 2 ^ 34 % 2 ^ 64)) (1 * 2 ^ 63 % 2 ^ 64)
+
+-- the slot of a question: twelve bits of its number, mixed
+unfoldable pub slot_of : Question → ℕ
+slot_of q = key q * 11400714819323198485 % 2 ^ 64 / 2 ^ 52
+
+-- the slot of a question has its answer
+abbrev pub Remembers : Remembered → Question → ℕ → Type 0
+Remembers m q answer = slice_index_or m.entries (slot_of q) None ≡ Some (record { question = q; answer = answer })
+
+-- every answer that is remembered is right
+abbrev pub Sound : Diagram → Remembered → Type 0
+Sound s m = All (λ e. IfSome e (λ x. Right s x.question x.answer)) m.entries

@@ -1,10 +1,9 @@
 //! A question and its answer.
 use crate::question::Question;
 
-/// A question, the handle that answers it, and the generation in which that was found.
+/// A question and the handle that answers it.
 #[derive(Clone, Copy)]
 pub struct Answered {
     pub question: Question,
     pub answer: u32,
-    pub generation: u32,
 }

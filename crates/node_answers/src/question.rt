@@ -1,5 +1,5 @@
 //! What is asked of a diagram.
-use node_rules::Combination;
+use functions::Combination;
 
 /// A handle with the qubit of a height set to a bit.
 #[derive(Clone, Copy, PartialEq, Eq)]

@@ -1,70 +1,55 @@
 //! Remembering, recalling and forgetting answers.
-ghost use Rattle.std.specs.Prelude.{ℕ, ◌<◌, IfSome};
+ghost use Rattle.std.specs.Prelude.{◌≡◌, ℕ, ◌<◌, ◌≢◌, ◌↔◌, Some, IfSome};
 ghost use Rattle.diagrams.specs.Diagrams.{Diagram};
-ghost use Rattle.node_answers.specs.Answers.{Right, Sound};
+ghost use Rattle.node_answers.specs.declared.question.Question.{Question};
+ghost use Rattle.node_answers.specs.Answers.{Right, Sound, slot_of, Remembers};
 
 use crate::answered::Answered;
-use crate::question::{Fixing, Question};
+use crate::question::Question;
 use crate::remembered::Remembered;
 
 impl Remembered {
     /// Nothing is remembered.
     pub fn new() -> Remembered
-        ensures { (s : Diagram) → Sound s result }
+        ensures none { (q : Question) (a : ℕ) → Remembers result q a → ⊥ }
+        ensures sound { (s : Diagram) → Sound s result }
     {
-        let none = Answered {
-            question: Question::Fixed(Fixing {
-                f: 0,
-                height: 0,
-                bit: false,
-            }),
-            answer: 0,
-            generation: 0,
-        };
         Remembered {
-            entries: [none; 4096],
-            generation: 1,
+            entries: [None; 4096],
         }
     }
 
     /// The answer of a question, if it is remembered.
     pub fn recall(&self, question: Question) -> Option<u32>
-        ensures { (s : Diagram) → Sound s self.now → IfSome result (Right s question) }
+        ensures is { (a : ℕ) → (result ≡ Some a) ↔ Remembers self.now question a }
+        ensures right { (s : Diagram) → Sound s self.now → IfSome result (Right s question) }
     {
-        let entry = self.entries[slot(question)];
-        if entry.generation == self.generation && entry.question == question {
-            Some(entry.answer)
-        } else {
-            None
-        }
+        let entry = self.entries[slot(question)]?;
+        (entry.question == question).then_some(entry.answer)
     }
 
     /// Remembers an answer, in place of any other in its slot.
     pub fn remember(&mut self, question: Question, answer: u32)
-        ensures { (s : Diagram) → Sound s self.old → Right s question answer → Sound s self.new }
+        ensures now { Remembers self.new question answer }
+        ensures others { (q : Question) (a : ℕ) → slot_of q ≢ slot_of question → (Remembers self.new q a ↔ Remembers self.old q a) }
+        ensures sound { (s : Diagram) → Sound s self.old → Right s question answer → Sound s self.new }
     {
-        self.entries[slot(question)] = Answered {
-            question,
-            answer,
-            generation: self.generation,
-        };
+        self.entries[slot(question)] = Some(Answered { question, answer });
     }
 
     /// Forgets everything.
     pub fn forget(&mut self)
-        ensures { (s : Diagram) → Sound s self.new }
+        ensures none { (q : Question) (a : ℕ) → Remembers self.new q a → ⊥ }
+        ensures sound { (s : Diagram) → Sound s self.new }
     {
-        if self.generation == u32::MAX {
-            *self = Remembered::new();
-        } else {
-            self.generation += 1;
-        }
+        self.entries.fill(None);
     }
 }
 
 // The slot of a question.
 fn slot(question: Question) -> usize
-    ensures { result < 4096 }
+    ensures is { result ≡ slot_of question }
+    ensures within { result < 4096 }
 {
     let key = match question {
         Question::Combined(c) => u64::from(c.f)

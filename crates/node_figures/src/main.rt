@@ -6,56 +6,43 @@ ghost use Rattle.node_store.specs.Orders.{Ordered};
 
 use anyhow::anyhow;
 use exact::Qubit;
-use functions::StoreFault;
+use functions::{FunctionStore, StoreFault, rules};
 use node_store::NodeStore;
-
-/// A function and a way to make it.
-#[derive(Clone, Copy)]
-enum Figure {
-    /// Whether an odd number of the qubits is 1.
-    OddSum,
-    /// The carry of two 8-bit numbers whose bits stand in turn, lowest first.
-    Interleaved,
-    /// The carry of two 8-bit numbers of which one stands before the other, lowest bit first.
-    Blocked,
-    /// The interleaved carry with the second highest bit of the first number set to 1.
-    BitSet,
-}
 
 fn main(rt: HostRuntime) -> anyhow::Result<()> {
     run(&rt)
 }
 
 fn run(rt: &HostRuntime) -> anyhow::Result<()> {
-    report(rt, "odd sum", Figure::OddSum)?;
-    report(rt, "carry, interleaved", Figure::Interleaved)?;
-    report(rt, "carry, blocked", Figure::Blocked)?;
-    report(rt, "carry, interleaved, a bit set", Figure::BitSet)
+    report(rt, "odd sum", odd_sum)?;
+    report(rt, "carry, interleaved", |store| carry(store, 2, 1))?;
+    report(rt, "carry, blocked", |store| carry(store, 1, 8))?;
+    report(rt, "carry, interleaved, a bit set", carry_with_bit_set)
 }
 
-// Nodes and ones of a figure, the least limit at which it can be made, and what a store of one node less does.
-fn report(rt: &HostRuntime, name: &str, figure: Figure) -> anyhow::Result<()> {
+// Nodes and ones of a function, the least limit at which it can be made, and what a store of one node less does.
+fn report<F: Fn(&mut NodeStore) -> Result<u32, StoreFault>>(
+    rt: &HostRuntime,
+    name: &str,
+    build: F,
+) -> anyhow::Result<()>
+    requires callable { (x : _) → Ordered x.now → F.pre build x }
+    requires keeps { (x r y : _) → Ordered x.now → F.post build x r y → Ordered y.now }
+{
     let mut store = empty(rt, 4096)?;
-    let f = passed(build(&mut store, figure))?;
-    let ones = passed(store.ones(f))?;
-    if store.keep(&[f]).is_err() {
-        return Err(anyhow!("keep was refused"));
-    }
+    let f = build(&mut store).map_err(refusal)?;
+    let ones = store.ones(f).map_err(refusal)?;
+    store.keep(&[f]).map_err(refusal)?;
     println!(rt; "{name}: {} nodes, {ones} ones", store.held())?;
-    let needed = least_limit(rt, figure)?;
+    let needed = least_limit(rt, &build)?;
     println!(rt; "  needs a limit of {needed}")?;
     let mut store = empty(rt, needed - 1)?;
-    let first = passed(store.literal(Qubit(0)))?;
-    match build(&mut store, figure) {
+    let first = store.literal(Qubit(0)).map_err(refusal)?;
+    match build(&mut store) {
         Ok(_) => println!(rt; "  made in less")?,
-        Err(fault) => println!(rt;
-            "  at {}: refused {} {}",
-            needed - 1,
-            fault.number(),
-            fault.value()
-        )?,
+        Err(fault) => println!(rt; "  at {}: {fault}", needed - 1)?,
     }
-    let ones = passed(store.ones(first))?;
+    let ones = store.ones(first).map_err(refusal)?;
     println!(rt;
         "  then {} held, and the first literal has {ones} ones",
         store.held()
@@ -63,13 +50,17 @@ fn report(rt: &HostRuntime, name: &str, figure: Figure) -> anyhow::Result<()> {
     Ok(())
 }
 
-// The least limit at which a figure can be made; at least 1.
-fn least_limit(rt: &HostRuntime, figure: Figure) -> anyhow::Result<u32>
+// The least limit at which a function can be made; at least 1.
+fn least_limit<F: Fn(&mut NodeStore) -> Result<u32, StoreFault>>(
+    rt: &HostRuntime,
+    build: &F,
+) -> anyhow::Result<u32>
+    requires { (x : _) → Ordered x.now → F.pre build.now x }
     ensures { IfOk result (λ limit. 1 ≤ limit) }
 {
     for limit in 1..4096 {
         let mut store = empty(rt, limit)?;
-        if build(&mut store, figure).is_ok() {
+        if build(&mut store).is_ok() {
             return Ok(limit);
         }
     }
@@ -84,28 +75,11 @@ fn empty(rt: &HostRuntime, limit: u32) -> anyhow::Result<NodeStore>
     Ok(NodeStore::new(words, 16))
 }
 
-fn passed(answer: Result<u32, StoreFault>) -> anyhow::Result<u32> {
-    match answer {
-        Ok(value) => Ok(value),
-        Err(_) => Err(anyhow!("a call was refused")),
-    }
+fn refusal(fault: StoreFault) -> anyhow::Error {
+    anyhow!("a call was {fault}")
 }
 
-fn build(store: &mut NodeStore, figure: Figure) -> Result<u32, StoreFault>
-    requires { Ordered store.old }
-    ensures { Ordered store.new }
-{
-    match figure {
-        Figure::OddSum => odd_sum(store),
-        Figure::Interleaved => carry(store, 2, 1),
-        Figure::Blocked => carry(store, 1, 8),
-        Figure::BitSet => {
-            let f = carry(store, 2, 1)?;
-            store.fixed(f, Qubit(12), true)
-        }
-    }
-}
-
+// Whether an odd number of the qubits is 1.
 fn odd_sum(store: &mut NodeStore) -> Result<u32, StoreFault>
     requires { Ordered store.old }
     ensures { Ordered store.new }
@@ -113,7 +87,7 @@ fn odd_sum(store: &mut NodeStore) -> Result<u32, StoreFault>
     let mut sum = 0;
     for q in 0..16 {
         let bit = store.literal(Qubit(q))?;
-        sum = store.combine(150, sum, bit, 0)?;
+        sum = store.combine(rules::PARITY, sum, bit, 0)?;
     }
     Ok(sum)
 }
@@ -128,7 +102,16 @@ fn carry(store: &mut NodeStore, stride: u32, offset: u32) -> Result<u32, StoreFa
     for i in 0..8 {
         let a = store.literal(Qubit(stride * i))?;
         let b = store.literal(Qubit(stride * i + offset))?;
-        carry = store.combine(232, a, b, carry)?;
+        carry = store.combine(rules::MAJORITY, a, b, carry)?;
     }
     Ok(carry)
+}
+
+// The carry of two numbers whose bits stand in turn, with the second highest bit of the first set to 1.
+fn carry_with_bit_set(store: &mut NodeStore) -> Result<u32, StoreFault>
+    requires { Ordered store.old }
+    ensures { Ordered store.new }
+{
+    let f = carry(store, 2, 1)?;
+    store.fixed(f, Qubit(12), true)
 }

@@ -62,42 +62,29 @@ module _ (made : ℕ → ℕ) (wanted : ℕ → Answers) where
   by_trying all rule h = same_answers_at (ruled (made rule)) (wanted rule) (every_at 256 right all rule h)
 
 -- an operand set to a bit
-pub first_1 : (rule : ℕ) → rule < 256 → (a b c : Bool) → ruled (bit_or (rule / 16) (bit_and rule 240)) a b c ≡ ruled rule true b c
+pub first_1 : (rule : ℕ) → rule < 256 → (a b c : Bool) → ruled (bit_or (bit_and rule 240) (bit_and rule 240 / 16)) a b c ≡ ruled rule true b c
 unfolding every right same_answers same_half same_pair ruled
-first_1 = by_trying (λ rule. bit_or (rule / 16) (bit_and rule 240)) (λ rule a b c. ruled rule true b c) refl
+first_1 = by_trying (λ rule. bit_or (bit_and rule 240) (bit_and rule 240 / 16)) (λ rule a b c. ruled rule true b c) refl
 
-pub first_0 : (rule : ℕ) → rule < 256 → (a b c : Bool) → ruled (bit_or (bit_and rule 15) (rule * 16 % 256)) a b c ≡ ruled rule false b c
+pub first_0 : (rule : ℕ) → rule < 256 → (a b c : Bool) → ruled (bit_or (bit_and rule 15) (bit_and rule 15 * 16 % 256)) a b c ≡ ruled rule false b c
 unfolding every right same_answers same_half same_pair ruled
-first_0 = by_trying (λ rule. bit_or (bit_and rule 15) (rule * 16 % 256)) (λ rule a b c. ruled rule false b c) refl
+first_0 = by_trying (λ rule. bit_or (bit_and rule 15) (bit_and rule 15 * 16 % 256)) (λ rule a b c. ruled rule false b c) refl
 
-pub second_1 : (rule : ℕ) → rule < 256 → (a b c : Bool) → ruled (bit_or (bit_and (rule / 4) 51) (bit_and rule 204)) a b c ≡ ruled rule a true c
+pub second_1 : (rule : ℕ) → rule < 256 → (a b c : Bool) → ruled (bit_or (bit_and rule 204) (bit_and rule 204 / 4)) a b c ≡ ruled rule a true c
 unfolding every right same_answers same_half same_pair ruled
-second_1 = by_trying (λ rule. bit_or (bit_and (rule / 4) 51) (bit_and rule 204)) (λ rule a b c. ruled rule a true c) refl
+second_1 = by_trying (λ rule. bit_or (bit_and rule 204) (bit_and rule 204 / 4)) (λ rule a b c. ruled rule a true c) refl
 
-pub second_0 : (rule : ℕ) → rule < 256 → (a b c : Bool) → ruled (bit_or (bit_and rule 51) (bit_and (rule * 4 % 256) 204)) a b c ≡ ruled rule a false c
+pub second_0 : (rule : ℕ) → rule < 256 → (a b c : Bool) → ruled (bit_or (bit_and rule 51) (bit_and rule 51 * 4 % 256)) a b c ≡ ruled rule a false c
 unfolding every right same_answers same_half same_pair ruled
-second_0 = by_trying (λ rule. bit_or (bit_and rule 51) (bit_and (rule * 4 % 256) 204)) (λ rule a b c. ruled rule a false c) refl
+second_0 = by_trying (λ rule. bit_or (bit_and rule 51) (bit_and rule 51 * 4 % 256)) (λ rule a b c. ruled rule a false c) refl
 
-pub third_1 : (rule : ℕ) → rule < 256 → (a b c : Bool) → ruled (bit_or (bit_and (rule / 2) 85) (bit_and rule 170)) a b c ≡ ruled rule a b true
+pub third_1 : (rule : ℕ) → rule < 256 → (a b c : Bool) → ruled (bit_or (bit_and rule 170) (bit_and rule 170 / 2)) a b c ≡ ruled rule a b true
 unfolding every right same_answers same_half same_pair ruled
-third_1 = by_trying (λ rule. bit_or (bit_and (rule / 2) 85) (bit_and rule 170)) (λ rule a b c. ruled rule a b true) refl
+third_1 = by_trying (λ rule. bit_or (bit_and rule 170) (bit_and rule 170 / 2)) (λ rule a b c. ruled rule a b true) refl
 
-pub third_0 : (rule : ℕ) → rule < 256 → (a b c : Bool) → ruled (bit_or (bit_and rule 85) (bit_and (rule * 2 % 256) 170)) a b c ≡ ruled rule a b false
+pub third_0 : (rule : ℕ) → rule < 256 → (a b c : Bool) → ruled (bit_or (bit_and rule 85) (bit_and rule 85 * 2 % 256)) a b c ≡ ruled rule a b false
 unfolding every right same_answers same_half same_pair ruled
-third_0 = by_trying (λ rule. bit_or (bit_and rule 85) (bit_and (rule * 2 % 256) 170)) (λ rule a b c. ruled rule a b false) refl
-
--- an operand that equals an earlier one
-pub second_first : (rule : ℕ) → rule < 256 → (a b c : Bool) → ruled (bit_or (bit_or (bit_and rule 195) (bit_and (rule * 4 % 256) 12)) (bit_and (rule / 4) 48)) a b c ≡ ruled rule a a c
-unfolding every right same_answers same_half same_pair ruled
-second_first = by_trying (λ rule. bit_or (bit_or (bit_and rule 195) (bit_and (rule * 4 % 256) 12)) (bit_and (rule / 4) 48)) (λ rule a b c. ruled rule a a c) refl
-
-pub third_first : (rule : ℕ) → rule < 256 → (a b c : Bool) → ruled (bit_or (bit_or (bit_and rule 165) (bit_and (rule * 2 % 256) 10)) (bit_and (rule / 2) 80)) a b c ≡ ruled rule a b a
-unfolding every right same_answers same_half same_pair ruled
-third_first = by_trying (λ rule. bit_or (bit_or (bit_and rule 165) (bit_and (rule * 2 % 256) 10)) (bit_and (rule / 2) 80)) (λ rule a b c. ruled rule a b a) refl
-
-pub third_second : (rule : ℕ) → rule < 256 → (a b c : Bool) → ruled (bit_or (bit_or (bit_and rule 153) (bit_and (rule * 2 % 256) 34)) (bit_and (rule / 2) 68)) a b c ≡ ruled rule a b b
-unfolding every right same_answers same_half same_pair ruled
-third_second = by_trying (λ rule. bit_or (bit_or (bit_and rule 153) (bit_and (rule * 2 % 256) 34)) (bit_and (rule / 2) 68)) (λ rule a b c. ruled rule a b b) refl
+third_0 = by_trying (λ rule. bit_or (bit_and rule 85) (bit_and rule 85 * 2 % 256)) (λ rule a b c. ruled rule a b false) refl
 
 -- the rule with given answers
 numbered : Answers → ℕ

@@ -1,3 +1,4 @@
 pub mod AllRules
 pub mod Comparing
+pub mod Replacing
 pub mod Simplifying

@@ -1,60 +1,56 @@
 -- A combination in its simplest form, and one that is answered outright.
-use Rattle.std.proofs.Common.{◌≡◌, ℕ, ◌<◌, ◌≤◌, Bool, true, false, cond, ◌⊎◌, Decides, sym, refl, ap, ◌∙◌, inl, inr, ⊎_elim, arith}
-use Rattle.std.proofs.lemmas.Bool.{cases_lt, cases_Bool, false≢true}
+use Rattle.std.proofs.Common.{◌≡◌, ℕ, ◌<◌, Bool, true, false, ◌⊎◌, sym, refl, ap, ◌∙◌, inl, inr, ⊎_elim, arith}
+use Rattle.std.proofs.lemmas.Bool.{cases_Bool}
 use Rattle.functions.specs.Tables.{ruled}
-use Rattle.node_rules.specs.declared.combination.Combination.{Combination}
-use Rattle.node_rules.specs.Rules.{IgnoresFirst, IgnoresSecond, IgnoresThird}
+use Rattle.functions.specs.declared.combination.Combination.{Combination}
+use Rattle.node_rules.specs.declared.operands.Operand.TheVariants.{First, Second, Third}
+use Rattle.node_rules.specs.Rules.{weight, Ignores}
 use Rattle.node_rules.specs.Combinations.{given, Taken, Simplified, Plain, Mixed}
-use Rattle.node_rules.specs.Settling.{SettledFirst, SettledSecond, SettledThird}
+use Rattle.node_rules.specs.Settling.{SetIfConstant, MergedIfEqual}
 use Rattle.node_rules.proofs.AllRules.{same_rule, rule_0, rule_255, rule_240, rule_204, rule_170}
 
 -- the value of a handle that is ignored does not matter
 module _ (v : ℕ → Bool) (rule : ℕ) where
-  same_first : (f f' g h : ℕ) → (f' ≡ f) ⊎ IgnoresFirst rule → given v rule f' g h ≡ given v rule f g h
+  same_first : (f f' g h : ℕ) → (f' ≡ f) ⊎ Ignores rule First → given v rule f' g h ≡ given v rule f g h
   same_first f f' g h (inl e) = ap (λ (z : ℕ). given v rule z g h) e
   same_first f f' g h (inr i) = i (v f') (v g) (v h) ∙ sym (i (v f) (v g) (v h))
 
-  same_second : (f g g' h : ℕ) → (g' ≡ g) ⊎ IgnoresSecond rule → given v rule f g' h ≡ given v rule f g h
+  same_second : (f g g' h : ℕ) → (g' ≡ g) ⊎ Ignores rule Second → given v rule f g' h ≡ given v rule f g h
   same_second f g g' h (inl e) = ap (λ (z : ℕ). given v rule f z h) e
   same_second f g g' h (inr i) = i (v f) (v g') (v h) ∙ sym (i (v f) (v g) (v h))
 
-  same_third : (f g h h' : ℕ) → (h' ≡ h) ⊎ IgnoresThird rule → given v rule f g h' ≡ given v rule f g h
+  same_third : (f g h h' : ℕ) → (h' ≡ h) ⊎ Ignores rule Third → given v rule f g h' ≡ given v rule f g h
   same_third f g h h' (inl e) = ap (λ (z : ℕ). given v rule f g z) e
   same_third f g h h' (inr i) = i (v f) (v g) (v h') ∙ sym (i (v f) (v g) (v h))
-
-taken : (ignored : Type 0) (b : Bool) (h : ℕ) → Decides b ignored → Taken ignored h (cond b 0 h)
-taken ignored true h d = inl (d.0 refl, refl)
-taken ignored false h d = inr (λ i. false≢true (d.1 i), refl)
 
 either : (ignored : Type 0) (given taken : ℕ) → Taken ignored given taken → (taken ≡ given) ⊎ ignored
 either ignored given taken (inl x) = inr x.0
 either ignored given taken (inr x) = inl x.1
 
-module _ (c : Combination) (r₁ r₂ r₃ : ℕ) (s₁ : SettledFirst c.rule c.f r₁) (s₂ : SettledSecond r₁ c.f c.g r₂) (s₃ : SettledThird r₂ c.f c.g c.h r₃) where
-  still_first : c.f < 2 → IgnoresFirst r₃
-  still_first l = s₃.first_still l (s₂.first_still l (s₁.constant l))
+-- the third operand settled by the second and the first, the second by the first, and each by its constant
+module _ (c : Combination) (r₁ r₂ r₃ r₄ r₅ r₆ : ℕ)
+    (m₁ : MergedIfEqual c.rule Third c.h Second c.g r₁) (m₂ : MergedIfEqual r₁ Third c.h First c.f r₂) (m₃ : MergedIfEqual r₂ Second c.g First c.f r₃)
+    (s₁ : SetIfConstant r₃ First c.f r₄) (s₂ : SetIfConstant r₄ Second c.g r₅) (s₃ : SetIfConstant r₅ Third c.h r₆) where
+  equal_third : (c.h ≡ c.f) ⊎ (c.h ≡ c.g) → Ignores r₃ Third
+  equal_third (inl e) = m₃.still Third (λ q. omega (arith, ap weight q)) (m₂.equal (λ q. omega (arith, ap weight q)) e)
+  equal_third (inr e) = m₃.still Third (λ q. omega (arith, ap weight q)) (m₂.still Third (λ q. omega (arith, ap weight q)) (m₁.equal (λ q. omega (arith, ap weight q)) e))
 
-  equal_second : c.g ≡ c.f → IgnoresSecond r₃
-  equal_second e = s₃.second_still (inr e) (⊎_elim (λ (l : c.g < 2). s₂.constant l) (λ (l : 2 ≤ c.g). s₂.equal l e) (cases_lt c.g 2))
-
-  equal_third : (c.h ≡ c.f) ⊎ (c.h ≡ c.g) → IgnoresThird r₃
-  equal_third e = ⊎_elim (λ (l : c.h < 2). s₃.constant l) (λ (l : 2 ≤ c.h). s₃.equal l e) (cases_lt c.h 2)
-
-  pub simplified : (i j k : Bool) → Decides i (IgnoresFirst r₃) → Decides j (IgnoresSecond r₃) → Decides k (IgnoresThird r₃) → Simplified c (record { rule = r₃; f = cond i 0 c.f; g = cond j 0 c.g; h = cond k 0 c.h })
-  simplified i j k di dj dk = record {
+  pub simplified : (f g h : ℕ) → Taken (Ignores r₆ First) c.f f → Taken (Ignores r₆ Second) c.g g → Taken (Ignores r₆ Third) c.h h → Simplified c (record { rule = r₆; f = f; g = g; h = h })
+  simplified f g h tf tg th = record {
     same = λ v w.
-        same_first v r₃ c.f (cond i 0 c.f) (cond j 0 c.g) (cond k 0 c.h) (either _ c.f _ (taken _ i c.f di))
-        ∙ same_second v r₃ c.f c.g (cond j 0 c.g) (cond k 0 c.h) (either _ c.g _ (taken _ j c.g dj))
-        ∙ same_third v r₃ c.f c.g c.h (cond k 0 c.h) (either _ c.h _ (taken _ k c.h dk))
-        ∙ s₃.same v w ∙ s₂.same v w c.h ∙ s₁.same v w c.g c.h;
-    first = taken _ i c.f di;
-    second = taken _ j c.g dj;
-    third = taken _ k c.h dk;
-    first_constant = still_first;
-    second_constant = λ l. s₃.second_still (inl l) (s₂.constant l);
-    second_equal = equal_second;
+        same_first v r₆ c.f f g h (either _ c.f f tf)
+        ∙ same_second v r₆ c.f c.g g h (either _ c.g g tg)
+        ∙ same_third v r₆ c.f c.g c.h h (either _ c.h h th)
+        ∙ s₃.same v w (v c.f) (v c.g) (v c.h) refl ∙ s₂.same v w (v c.f) (v c.g) (v c.h) refl ∙ s₁.same v w (v c.f) (v c.g) (v c.h) refl
+        ∙ m₃.same (v c.f) (v c.g) (v c.h) (ap v) ∙ m₂.same (v c.f) (v c.g) (v c.h) (ap v) ∙ m₁.same (v c.f) (v c.g) (v c.h) (ap v);
+    first = tf;
+    second = tg;
+    third = th;
+    first_constant = λ l. s₃.still First (s₂.still First (s₁.constant l));
+    second_constant = λ l. s₃.still Second (s₂.constant l);
+    second_equal = λ e. s₃.still Second (s₂.still Second (s₁.still Second (m₃.equal (λ q. omega (arith, ap weight q)) e)));
     third_constant = s₃.constant;
-    third_equal = equal_third;
+    third_equal = λ e. s₃.still Third (s₂.still Third (s₁.still Third (equal_third e)));
   }
 
 -- a rule that is constant or copies an operand
@@ -104,7 +100,7 @@ ignored_below ignored given taken (inl x) constant l = x.0
 ignored_below ignored given taken (inr x) constant l = constant (omega arith)
 
 -- a rule that ignores all three operands is constant
-not_all_ignored : (rule : ℕ) → Mixed rule → IgnoresFirst rule → IgnoresSecond rule → IgnoresThird rule → ⊥
+not_all_ignored : (rule : ℕ) → Mixed rule → Ignores rule First → Ignores rule Second → Ignores rule Third → ⊥
 not_all_ignored rule m i j k =
     let same : (a b c : Bool) → ruled rule a b c ≡ ruled rule false false false = λ a b c. i a b c ∙ j false b c ∙ k false false c in
     ⊎_elim (λ (e : ruled rule false false false ≡ true). m.not_one (λ a b c. same a b c ∙ e))

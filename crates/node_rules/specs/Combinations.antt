@@ -1,8 +1,9 @@
 -- Combinations that ask for the same, whatever their handles stand for.
 use Rattle.std.specs.Prelude.{◌≡◌, ℕ, ◌<◌, Bool, true, false, ◌⊎◌, Some, None, Option}
 use Rattle.functions.specs.Tables.{ruled}
-use Rattle.node_rules.specs.declared.combination.Combination.{Combination}
-use Rattle.node_rules.specs.Rules.{IgnoresFirst, IgnoresSecond, IgnoresThird}
+use Rattle.functions.specs.declared.combination.Combination.{Combination}
+use Rattle.node_rules.specs.declared.operands.Operand.TheVariants.{First, Second, Third}
+use Rattle.node_rules.specs.Rules.{Ignores}
 
 -- a value for each handle, as at one index: the constants have theirs
 pub record Values (v : ℕ → Bool) : Type 0 where
@@ -23,14 +24,14 @@ Taken ignored given taken = (ignored × (taken ≡ 0)) ⊎ ((ignored → ⊥) ×
 -- r asks for the same as c, of no handle that is a constant, equals an earlier one or does not matter; 0 stands for these.
 pub record Simplified (c r : Combination) : Type 0 where
   pub same : (v : ℕ → Bool) → Values v → result v r ≡ result v c
-  pub first : Taken (IgnoresFirst r.rule) c.f r.f
-  pub second : Taken (IgnoresSecond r.rule) c.g r.g
-  pub third : Taken (IgnoresThird r.rule) c.h r.h
-  pub first_constant : c.f < 2 → IgnoresFirst r.rule
-  pub second_constant : c.g < 2 → IgnoresSecond r.rule
-  pub second_equal : c.g ≡ c.f → IgnoresSecond r.rule
-  pub third_constant : c.h < 2 → IgnoresThird r.rule
-  pub third_equal : (c.h ≡ c.f) ⊎ (c.h ≡ c.g) → IgnoresThird r.rule
+  pub first : Taken (Ignores r.rule First) c.f r.f
+  pub second : Taken (Ignores r.rule Second) c.g r.g
+  pub third : Taken (Ignores r.rule Third) c.h r.h
+  pub first_constant : c.f < 2 → Ignores r.rule First
+  pub second_constant : c.g < 2 → Ignores r.rule Second
+  pub second_equal : c.g ≡ c.f → Ignores r.rule Second
+  pub third_constant : c.h < 2 → Ignores r.rule Third
+  pub third_equal : (c.h ≡ c.f) ⊎ (c.h ≡ c.g) → Ignores r.rule Third
 
 -- r is a constant or one of the three, and always has the value that is asked for
 pub record Plain (c : Combination) (r : ℕ) : Type 0 where

@@ -1,21 +1,18 @@
--- A rule with one operand after another settled, where the handle is a constant or equals an earlier one.
-use Rattle.std.specs.Prelude.{◌≡◌, ℕ, ◌<◌, ◌≤◌, Bool, ◌⊎◌}
-use Rattle.node_rules.specs.Rules.{IgnoresFirst, IgnoresSecond, IgnoresThird}
-use Rattle.node_rules.specs.Combinations.{Values, given}
+-- A rule with an operand settled, where its handle is a constant or equals an earlier one.
+use Rattle.std.specs.Prelude.{◌≡◌, ℕ, ◌<◌, Bool}
+use Rattle.functions.specs.Tables.{ruled}
+use Rattle.node_rules.specs.declared.operands.Operand.{Operand}
+use Rattle.node_rules.specs.Rules.{bit_of, Ignores}
+use Rattle.node_rules.specs.Combinations.{Values}
 
-pub record SettledFirst (rule f r : ℕ) : Type 0 where
-  pub same : (v : ℕ → Bool) → Values v → (g h : ℕ) → given v r f g h ≡ given v rule f g h
-  pub constant : f < 2 → IgnoresFirst r
+-- r answers as the rule does where the operand o has the value of the handle h, and ignores it if h is a constant
+pub record SetIfConstant (rule : ℕ) (o : Operand) (h r : ℕ) : Type 0 where
+  pub same : (v : ℕ → Bool) → Values v → (a b c : Bool) → bit_of o a b c ≡ v h → ruled r a b c ≡ ruled rule a b c
+  pub constant : h < 2 → Ignores r o
+  pub still : (p : Operand) → Ignores rule p → Ignores r p
 
-pub record SettledSecond (rule f g r : ℕ) : Type 0 where
-  pub same : (v : ℕ → Bool) → Values v → (h : ℕ) → given v r f g h ≡ given v rule f g h
-  pub constant : g < 2 → IgnoresSecond r
-  pub equal : 2 ≤ g → g ≡ f → IgnoresSecond r
-  pub first_still : f < 2 → IgnoresFirst rule → IgnoresFirst r
-
-pub record SettledThird (rule f g h r : ℕ) : Type 0 where
-  pub same : (v : ℕ → Bool) → Values v → given v r f g h ≡ given v rule f g h
-  pub constant : h < 2 → IgnoresThird r
-  pub equal : 2 ≤ h → (h ≡ f) ⊎ (h ≡ g) → IgnoresThird r
-  pub first_still : f < 2 → IgnoresFirst rule → IgnoresFirst r
-  pub second_still : (g < 2) ⊎ (g ≡ f) → IgnoresSecond rule → IgnoresSecond r
+-- r answers as the rule does where the operand o has the value of another, and ignores it, if their handles are equal
+pub record MergedIfEqual (rule : ℕ) (o : Operand) (h : ℕ) (other : Operand) (k r : ℕ) : Type 0 where
+  pub same : (a b c : Bool) → (h ≡ k → bit_of o a b c ≡ bit_of other a b c) → ruled r a b c ≡ ruled rule a b c
+  pub equal : (o ≡ other → ⊥) → h ≡ k → Ignores r o
+  pub still : (p : Operand) → (p ≡ other → ⊥) → Ignores rule p → Ignores r p

@@ -1,85 +1,75 @@
 //! Combinations in their simplest form.
-ghost use Rattle.std.specs.Prelude.{◌≡◌, if◌then◌else◌};
-ghost use Rattle.node_rules.specs.Settling.{SettledFirst, SettledSecond, SettledThird};
-ghost use Rattle.node_rules.specs.Combinations.{Simplified, Outright};
+ghost use Rattle.node_rules.specs.Rules.{Ignores};
+ghost use Rattle.node_rules.specs.Settling.{SetIfConstant, MergedIfEqual};
+ghost use Rattle.node_rules.specs.Combinations.{Taken, Simplified, Outright};
 
-use crate::combination::Combination;
+use crate::operands::Operand;
 use crate::rules;
+use functions::Combination;
 
-impl Combination {
-    /// The same question in its simplest form, so that equal questions become equal: a handle that is a constant, equals an
-    /// earlier one or does not matter is replaced by 0, and the rule no longer looks at it.
-    pub fn simplified(self) -> Combination
-        ensures { Simplified self result }
-    {
-        let rule = settled_first(self.rule, self.f);
-        let rule = settled_second(rule, self.f, self.g);
-        let rule = settled_third(rule, self.f, self.g, self.h);
-        Combination {
-            rule,
-            f: unless_ignored(self.f, rules::ignores_first(rule)),
-            g: unless_ignored(self.g, rules::ignores_second(rule)),
-            h: unless_ignored(self.h, rules::ignores_third(rule)),
-        }
-    }
-
-    /// The answer, if the rule is constant or copies one of the handles.
-    pub fn outright(self) -> Option<u32>
-        ensures { Outright self result }
-    {
-        match self.rule {
-            0b0000_0000 => Some(0),
-            0b1111_1111 => Some(1),
-            0b1111_0000 => Some(self.f),
-            0b1100_1100 => Some(self.g),
-            0b1010_1010 => Some(self.h),
-            _ => None,
-        }
+/// The same question in its simplest form, so that equal questions become equal: a handle that is a constant, equals an
+/// earlier one or does not matter is replaced by 0, and the rule no longer looks at it.
+pub fn simplified(asked: Combination) -> Combination
+    ensures { Simplified asked result }
+{
+    let Combination { rule, f, g, h } = asked;
+    let rule = merged_if_equal(rule, Operand::Third, h, Operand::Second, g);
+    let rule = merged_if_equal(rule, Operand::Third, h, Operand::First, f);
+    let rule = merged_if_equal(rule, Operand::Second, g, Operand::First, f);
+    let rule = set_if_constant(rule, Operand::First, f);
+    let rule = set_if_constant(rule, Operand::Second, g);
+    let rule = set_if_constant(rule, Operand::Third, h);
+    Combination {
+        rule,
+        f: unless_ignored(rule, Operand::First, f),
+        g: unless_ignored(rule, Operand::Second, g),
+        h: unless_ignored(rule, Operand::Third, h),
     }
 }
 
-// A handle that is looked at; 0 stands for any other.
-fn unless_ignored(handle: u32, ignored: bool) -> u32
-    ensures { result ≡ (if ignored then 0 else handle) }
+/// The answer, if the rule is constant or copies one of the handles.
+pub fn outright(asked: Combination) -> Option<u32>
+    ensures { Outright asked result }
 {
-    if ignored { 0 } else { handle }
+    match asked.rule {
+        rules::ZERO => Some(0),
+        rules::ONE => Some(1),
+        rules::FIRST => Some(asked.f),
+        rules::SECOND => Some(asked.g),
+        rules::THIRD => Some(asked.h),
+        _ => None,
+    }
 }
 
-// The rule with its first operand set, if it is a constant.
-fn settled_first(rule: u8, f: u32) -> u8
-    ensures { SettledFirst rule f result }
+// The rule with an operand set, if its handle is a constant.
+fn set_if_constant(rule: u8, operand: Operand, handle: u32) -> u8
+    ensures { SetIfConstant rule operand handle result }
 {
-    if f < 2 {
-        rules::with_first(rule, f == 1)
+    if handle < 2 {
+        rules::with(rule, operand, handle == 1)
     } else {
         rule
     }
 }
 
-// The rule with its second operand set if it is a constant, and ignored if it equals the first.
-fn settled_second(rule: u8, f: u32, g: u32) -> u8
-    ensures { SettledSecond rule f g result }
+// The rule that takes another operand for one, if their handles are equal.
+fn merged_if_equal(rule: u8, operand: Operand, handle: u32, other: Operand, earlier: u32) -> u8
+    ensures { MergedIfEqual rule operand handle other earlier result }
 {
-    if g < 2 {
-        rules::with_second(rule, g == 1)
-    } else if g == f {
-        rules::second_as_first(rule)
+    if handle == earlier {
+        rules::merged(rule, operand, other)
     } else {
         rule
     }
 }
 
-// The rule with its third operand set if it is a constant, and ignored if it equals an earlier one.
-fn settled_third(rule: u8, f: u32, g: u32, h: u32) -> u8
-    ensures { SettledThird rule f g h result }
+// A handle that the rule looks at; 0 stands for any other.
+fn unless_ignored(rule: u8, operand: Operand, handle: u32) -> u32
+    ensures { Taken (Ignores rule operand) handle result }
 {
-    if h < 2 {
-        rules::with_third(rule, h == 1)
-    } else if h == f {
-        rules::third_as_first(rule)
-    } else if h == g {
-        rules::third_as_second(rule)
+    if rules::ignores(rule, operand) {
+        0
     } else {
-        rule
+        handle
     }
 }

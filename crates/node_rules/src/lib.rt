@@ -2,7 +2,7 @@
 #![tactic(auto)]
 
 mod asking;
-mod combination;
+mod operands;
 mod rules;
 
-pub use combination::Combination;
+pub use asking::{outright, simplified};

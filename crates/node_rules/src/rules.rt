@@ -1,79 +1,46 @@
 //! Rules: bit number 4a + 2b + c is the answer at the operands a, b and c.
 ghost use Rattle.std.specs.Prelude.{◌≡◌, Bool, Decides};
 ghost use Rattle.functions.specs.Tables.{ruled};
-ghost use Rattle.node_rules.specs.Rules.{IgnoresFirst, IgnoresSecond, IgnoresThird};
+ghost use Rattle.node_rules.specs.Rules.{bit_of, replaced, Ignores};
 
-/// The rule with its first operand set to a bit.
-pub fn with_first(rule: u8, bit: bool) -> u8
-    ensures { (a b c : Bool) → ruled result a b c ≡ ruled rule bit b c }
+use crate::operands::Operand;
+
+/// The rules that are constant.
+pub const ZERO: u8 = 0b0000_0000;
+
+pub const ONE: u8 = 0b1111_1111;
+
+/// The rules that copy an operand.
+pub const FIRST: u8 = 0b1111_0000;
+
+pub const SECOND: u8 = 0b1100_1100;
+
+pub const THIRD: u8 = 0b1010_1010;
+
+/// The rule with an operand set to a bit.
+pub fn with(rule: u8, operand: Operand, bit: bool) -> u8
+    ensures { (a b c : Bool) → ruled result a b c ≡ replaced rule operand bit a b c }
 {
     if bit {
-        rule >> 4 | rule & 0b1111_0000
+        let half = rule & operand.copied();
+        half | half >> operand.weight()
     } else {
-        rule & 0b0000_1111 | rule << 4
+        let half = rule & !operand.copied();
+        half | half << operand.weight()
     }
 }
 
-/// The rule with its second operand set to a bit.
-pub fn with_second(rule: u8, bit: bool) -> u8
-    ensures { (a b c : Bool) → ruled result a b c ≡ ruled rule a bit c }
+/// The rule that takes another operand for one.
+pub fn merged(rule: u8, operand: Operand, other: Operand) -> u8
+    ensures { (a b c : Bool) → ruled result a b c ≡ replaced rule operand (bit_of other a b c) a b c }
 {
-    if bit {
-        rule >> 2 & 0b0011_0011 | rule & 0b1100_1100
-    } else {
-        rule & 0b0011_0011 | rule << 2 & 0b1100_1100
-    }
+    let ones = other.copied();
+    with(rule, operand, true) & ones | with(rule, operand, false) & !ones
 }
 
-/// The rule with its third operand set to a bit.
-pub fn with_third(rule: u8, bit: bool) -> u8
-    ensures { (a b c : Bool) → ruled result a b c ≡ ruled rule a b bit }
+/// Whether the answer never depends on an operand.
+pub fn ignores(rule: u8, operand: Operand) -> bool
+    ensures { Decides result (Ignores rule operand) }
 {
-    if bit {
-        rule >> 1 & 0b0101_0101 | rule & 0b1010_1010
-    } else {
-        rule & 0b0101_0101 | rule << 1 & 0b1010_1010
-    }
-}
-
-/// The rule that takes its first operand for the second as well.
-pub fn second_as_first(rule: u8) -> u8
-    ensures { (a b c : Bool) → ruled result a b c ≡ ruled rule a a c }
-{
-    rule & 0b1100_0011 | rule << 2 & 0b0000_1100 | rule >> 2 & 0b0011_0000
-}
-
-/// The rule that takes its first operand for the third as well.
-pub fn third_as_first(rule: u8) -> u8
-    ensures { (a b c : Bool) → ruled result a b c ≡ ruled rule a b a }
-{
-    rule & 0b1010_0101 | rule << 1 & 0b0000_1010 | rule >> 1 & 0b0101_0000
-}
-
-/// The rule that takes its second operand for the third as well.
-pub fn third_as_second(rule: u8) -> u8
-    ensures { (a b c : Bool) → ruled result a b c ≡ ruled rule a b b }
-{
-    rule & 0b1001_1001 | rule << 1 & 0b0010_0010 | rule >> 1 & 0b0100_0100
-}
-
-/// Whether the answer never depends on the first operand.
-pub fn ignores_first(rule: u8) -> bool
-    ensures { Decides result (IgnoresFirst rule) }
-{
-    rule == with_first(rule, false)
-}
-
-/// Whether the answer never depends on the second operand.
-pub fn ignores_second(rule: u8) -> bool
-    ensures { Decides result (IgnoresSecond rule) }
-{
-    rule == with_second(rule, false)
-}
-
-/// Whether the answer never depends on the third operand.
-pub fn ignores_third(rule: u8) -> bool
-    ensures { Decides result (IgnoresThird rule) }
-{
-    rule == with_third(rule, false)
+    rule == with(rule, operand, false)
 }

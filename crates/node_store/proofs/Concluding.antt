@@ -1,6 +1,5 @@
 -- What a call that makes a function answers.
-use Rattle.std.proofs.Common.{◌≡◌, ℕ, ◌^◌, ◌<◌, ◌≤◌, length, Some, None, Ok, Err, Option, Result, sym, refl, ◌∙◌, subst, ap₂}
-use Rattle.functions.specs.declared.faults.StoreFault.{StoreFault}
+use Rattle.std.proofs.Common.{◌≡◌, ℕ, ◌^◌, ◌<◌, ◌≤◌, length, Some, None, Ok, Err, Option, sym, refl, ◌∙◌, subst, ap₂}
 use Rattle.functions.specs.declared.faults.StoreFault.TheVariants.{NoSpace}
 use Rattle.functions.specs.Tables.{Table}
 use Rattle.functions.specs.Meanings.{Meaning}
@@ -11,7 +10,6 @@ use Rattle.diagrams.specs.Meanings.{diagram_meaning, InLimit}
 use Rattle.diagrams.proofs.Forming.{formed_literal, short_literal}
 use Rattle.diagrams.proofs.Meanings.{alike_meaning}
 use Rattle.diagrams.proofs.Making.{made_formed, short_exceeds}
-use Rattle.diagrams.proofs.Asked.{made_refused}
 use Rattle.node_table.specs.declared.table.NodeTable.{NodeTable}
 use Rattle.node_table.specs.Ordering.{InOrder, Grown, diagram_of}
 use Rattle.node_table.specs.Adding.{JoinAnswer}
@@ -24,7 +22,7 @@ use Rattle.node_store.specs.Orders.{diagram, node_meaning, Ordered, Forms, Tried
 use Rattle.node_store.proofs.Steps.{still_reduced}
 
 -- a meaning by the qubits and the limit of another store
-pub meaning_by : (old t : NodeTable) → t.qubits ≡ old.qubits → t.limit ≡ old.limit → diagram_meaning t.qubits t.limit (diagram_of t) ≡ diagram_meaning old.qubits old.limit (diagram_of t)
+pub meaning_by : (old t : NodeTable) → t.qubits.number ≡ old.qubits.number → t.limit ≡ old.limit → diagram_meaning t.qubits.number t.limit (diagram_of t) ≡ diagram_meaning old.qubits.number old.limit (diagram_of t)
 meaning_by old t e l = ap₂ (λ (n m : ℕ). diagram_meaning n m (diagram_of t)) e l
 
 -- formed
@@ -34,7 +32,7 @@ concluded_some old s f used h x =
     record {
       order = x.forms.order;
       made = rw (meaning_by old.nodes s.nodes g.qubits g.limit)
-          (made_formed old.nodes.qubits old.nodes.limit (diagram old) (diagram s) f h (Ok (f.over old.nodes.qubits))
+          (made_formed old.nodes.qubits.number old.nodes.limit (diagram old) (diagram s) f h (Ok (f.over old.nodes.qubits.number))
           x.order.nodes.reduced x.order.nodes.in_limit (still_reduced old.nodes s.nodes g x.forms.order.nodes)
           (subst (λ (l : ℕ). InLimit l (diagram s)) g.limit x.forms.order.nodes.in_limit)
           g.keeps x.forms.outcome x.within refl);
@@ -49,35 +47,27 @@ no_space : (n limit : ℕ) (s t : Diagram) (f : Wanted) → Reduced n s → InLi
 unfolding Due diagram_meaning
 no_space n limit s t f o i p k x l z = (refl, short_exceeds n limit s t f o i p k x l z)
 
-pub concluded_none : (old s : NodeStore) (f : Wanted) (used : ℕ) → Tried old s f used None → (t : NodeTable) → t.qubits ≡ s.nodes.qubits → t.limit ≡ s.nodes.limit → Restored old.nodes t → (m : Remembered) → ((d : Diagram) → Sound d m) → (limit : ℕ) → limit ≡ t.limit → Concluded old (record { nodes = t; remembered = m }) f (Err (NoSpace limit))
+pub concluded_none : (old s : NodeStore) (f : Wanted) (used : ℕ) → Tried old s f used None → (t : NodeTable) → t.qubits.number ≡ s.nodes.qubits.number → t.limit ≡ s.nodes.limit → Restored old.nodes t → (m : Remembered) → ((d : Diagram) → Sound d m) → (limit : ℕ) → limit ≡ t.limit → Concluded old (record { nodes = t; remembered = m }) f (Err (NoSpace limit))
 concluded_none old s f used x t q l r m forgets limit e =
     let g = x.forms.grown in
-    let same : diagram_meaning t.qubits t.limit (diagram_of t) ≡ node_meaning old =
-    meaning_by old.nodes t (q ∙ g.qubits) (l ∙ g.limit) ∙ alike_meaning old.nodes.qubits old.nodes.limit (diagram old) (diagram_of t) x.order.nodes.reduced r.alike in
+    let same : diagram_meaning t.qubits.number t.limit (diagram_of t) ≡ node_meaning old =
+    meaning_by old.nodes t (q ∙ g.qubits) (l ∙ g.limit) ∙ alike_meaning old.nodes.qubits.number old.nodes.limit (diagram old) (diagram_of t) x.order.nodes.reduced r.alike in
     record {
       order = record { nodes = r.order; sound = forgets (diagram_of t) };
       made = rw (e ∙ l ∙ g.limit)
-          (refused (node_meaning old) (diagram_meaning t.qubits t.limit (diagram_of t)) (f.over old.nodes.qubits) old.nodes.limit same
-          (no_space old.nodes.qubits old.nodes.limit (diagram old) (diagram s) f x.order.nodes.reduced x.order.nodes.in_limit (still_reduced old.nodes s.nodes g x.forms.order.nodes) g.keeps x.forms.outcome x.within x.sized));
+          (refused (node_meaning old) (diagram_meaning t.qubits.number t.limit (diagram_of t)) (f.over old.nodes.qubits.number) old.nodes.limit same
+          (no_space old.nodes.qubits.number old.nodes.limit (diagram old) (diagram s) f x.order.nodes.reduced x.order.nodes.in_limit (still_reduced old.nodes s.nodes g x.forms.order.nodes) g.keeps x.forms.outcome x.within x.sized));
     }
 
 -- ---- the bit of a qubit
 module _ (s : NodeStore) (o : Ordered s) (m : ℕ) (some : 0 < m) (u : NodeTable) (ou : InOrder u) (gu : Grown s.nodes u) where
   still_ordered : Ordered (record { nodes = u; remembered = s.remembered })
-  still_ordered = record { nodes = ou; sound = sound_kept s.nodes.qubits (diagram s) (diagram_of u) o.nodes.reduced gu.keeps s.remembered o.sound }
+  still_ordered = record { nodes = ou; sound = sound_kept s.nodes.qubits.number (diagram s) (diagram_of u) o.nodes.reduced gu.keeps s.remembered o.sound }
 
   pub literal_forms : (r : Option ℕ) → JoinAnswer s.nodes u m 0 1 r → Forms s (record { nodes = u; remembered = s.remembered }) (bit_of m) r
-  literal_forms (Some r) j = record { order = still_ordered; grown = gu; outcome = formed_literal s.nodes.qubits (diagram s) o.nodes.reduced (diagram_of u) m r some gu.keeps j }
+  literal_forms (Some r) j = record { order = still_ordered; grown = gu; outcome = formed_literal s.nodes.qubits.number (diagram s) o.nodes.reduced (diagram_of u) m r some gu.keeps j }
   literal_forms None j = record {
     order = still_ordered;
     grown = gu;
-    outcome = subst (λ (d : Diagram). Short (diagram s) d s.nodes.limit (bit_of m)) (sym j.0) (short_literal s.nodes.qubits (diagram s) o.nodes.reduced s.nodes.limit m some j.1);
+    outcome = subst (λ (d : Diagram). Short (diagram s) d s.nodes.limit (bit_of m)) (sym j.0) (short_literal s.nodes.qubits.number (diagram s) o.nodes.reduced s.nodes.limit m some j.1);
   }
-
--- an answer to what was asked
-pub made_as : (v w : Meaning) (asked : Result Table StoreFault) (f : Table) (r : Result ℕ StoreFault) → asked ≡ Ok f → Made v w (Ok f) r → Made v w asked r
-made_as v w asked f r e x = subst (λ (a : Result Table StoreFault). Made v w a r) (sym e) x
-
--- a handle that is not held
-pub refused_as : (v : Meaning) (asked : Result Table StoreFault) (d e : StoreFault) → asked ≡ Err d → e ≡ d → Made v v asked (Err e)
-refused_as v asked d e a q = subst (λ (x : StoreFault). Made v v asked (Err x)) (sym q) (made_refused v v asked d a refl)

@@ -1,7 +1,6 @@
 pub mod Simpler
 pub mod Steps
-pub mod Combining
-pub mod Fixing
+pub mod Halving
 pub mod Concluding
 pub mod Keeping
 pub mod Reading

@@ -1,5 +1,5 @@
 -- A combination that is simplified, or that has an answer outright.
-use Rattle.std.proofs.Common.{◌≡◌, ℕ, ◌<◌, ◌≤◌, Bool, true, false, ◌⊎◌, length, sym, ap, ◌∙◌, subst, inl, inr, ⊎_elim, arith}
+use Rattle.std.proofs.Common.{◌≡◌, ℕ, ◌<◌, ◌≤◌, Bool, true, false, ◌⊎◌, length, sym, refl, ap, ◌∙◌, subst, inl, inr, ⊎_elim, arith}
 use Rattle.std.proofs.lemmas.Bool.{cases_lt}
 use Rattle.exact.specs.Indices.{Index}
 use Rattle.exact.proofs.Listings.{listing_same}
@@ -10,7 +10,7 @@ use Rattle.diagrams.specs.Forming.{Wanted, combination, Formed, Short, Lacks, On
 use Rattle.diagrams.proofs.Canonical.{constant_held, length_over}
 use Rattle.diagrams.proofs.Wanted.{over_zero, over_one}
 use Rattle.diagrams.proofs.Forming.{formed_known}
-use Rattle.node_rules.specs.declared.combination.Combination.{Combination}
+use Rattle.functions.specs.declared.combination.Combination.{Combination}
 use Rattle.node_rules.specs.Combinations.{Values, Taken, Simplified, Plain, Mixed}
 use Rattle.node_rules.proofs.Simplifying.{some_node}
 
@@ -26,6 +26,9 @@ formed_covers s t f g r c x = record {
   is = λ d l. x.is d (omega (arith, c.least)) ∙ c.over d l;
   only_parts = λ d l. subst (OnlyParts s t d) (c.over d l) (x.only_parts d (omega (arith, c.least)));
 }
+
+pub covers_self : (f : Wanted) → Covers f f
+covers_self f = record { least = omega arith; over = λ d l. refl }
 
 pub short_covers : (s t : Diagram) (limit : ℕ) (f g : Wanted) → Covers f g → Short s t limit f → Short s t limit g
 short_covers s t limit f g c x = record {

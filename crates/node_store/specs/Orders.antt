@@ -1,13 +1,12 @@
 -- A node store in order, and how functions are formed in it.
-use Rattle.std.specs.Prelude.{◌≡◌, ℕ, ◌-◌, ◌^◌, ◌≤◌, Bool, cond, length, Some, None, Ok, Err, Option, Result}
+use Rattle.std.specs.Prelude.{◌≡◌, ℕ, ◌^◌, ◌≤◌, length, Some, None, Ok, Err, Option, Result}
 use Rattle.functions.specs.declared.faults.StoreFault.{StoreFault}
 use Rattle.functions.specs.declared.faults.StoreFault.TheVariants.{NotHeld}
 use Rattle.functions.specs.Meanings.{Meaning}
 use Rattle.functions.specs.Answers.{Made}
-use Rattle.diagrams.specs.Diagrams.{Diagram, low_half, high_half, Held}
+use Rattle.diagrams.specs.Diagrams.{Diagram, Held}
 use Rattle.diagrams.specs.Meanings.{diagram_meaning}
 use Rattle.diagrams.specs.Forming.{Wanted, Formed, Short}
-use Rattle.node_rules.specs.declared.combination.Combination.{Combination}
 use Rattle.node_table.specs.Ordering.{InOrder, Grown, diagram_of}
 use Rattle.node_answers.specs.Answers.{Sound}
 use Rattle.node_store.specs.declared.store.NodeStore.{NodeStore}
@@ -23,7 +22,7 @@ pub record Ordered (s : NodeStore) : Type 0 where
 
 -- what a store means
 abbrev pub node_meaning : NodeStore → Meaning
-node_meaning s = diagram_meaning s.nodes.qubits s.nodes.limit (diagram s)
+node_meaning s = diagram_meaning s.nodes.qubits.number s.nodes.limit (diagram s)
 
 -- From s to t, a function was formed, or fell short of room.
 abbrev pub FormedOrShort : NodeStore → NodeStore → Wanted → Option ℕ → Type 0
@@ -36,29 +35,18 @@ pub record Forms (s t : NodeStore) (f : Wanted) (r : Option ℕ) : Type 0 where
   pub grown : Grown s.nodes t.nodes
   pub outcome : FormedOrShort s t f r
 
--- the half of a handle at height m, where its qubit is the bit b
-abbrev pub half_of : Diagram → ℕ → ℕ → Bool → ℕ
-half_of s h m b = cond b (high_half s (m - 1) h) (low_half s (m - 1) h)
-
--- r is c with its three handles halved at height m
-pub record Halved (s : Diagram) (c : Combination) (m : ℕ) (b : Bool) (r : Combination) : Type 0 where
-  pub rule : r.rule ≡ c.rule
-  pub first : r.f ≡ half_of s c.f m b
-  pub second : r.g ≡ half_of s c.g m b
-  pub third : r.h ≡ half_of s c.h m b
-
 -- From `old`, whose table had the number `used`, f was tried: it was formed, or fell short of room.
 pub record Tried (old s : NodeStore) (f : Wanted) (used : ℕ) (tried : Option ℕ) : Type 0 where
   pub order : Ordered old
   pub forms : Forms old s f tried
   pub since : old.nodes.used ≡ used
-  pub within : f.least ≤ old.nodes.qubits
-  pub sized : length (f.over old.nodes.qubits) ≡ 2 ^ old.nodes.qubits
+  pub within : f.least ≤ old.nodes.qubits.number
+  pub sized : length (f.over old.nodes.qubits.number) ≡ 2 ^ old.nodes.qubits.number
 
 -- From `old` to t, the answer r was given to a call that asked for f.
 pub record Concluded (old t : NodeStore) (f : Wanted) (r : Result ℕ StoreFault) : Type 0 where
   pub order : Ordered t
-  pub made : Made (node_meaning old) (node_meaning t) (Ok (f.over old.nodes.qubits)) r
+  pub made : Made (node_meaning old) (node_meaning t) (Ok (f.over old.nodes.qubits.number)) r
 
 -- a handle is held, or refused
 abbrev pub HeldOrRefused : Diagram → ℕ → Result (Unit {0}) StoreFault → Type 0

@@ -5,6 +5,7 @@ ghost use Rattle.node_store.specs.Orders.{node_meaning, Ordered};
 ghost use Rattle.node_store.specs.New.{store_check, new_setting, Untouched};
 
 use crate::store::NodeStore;
+use exact::QubitCount;
 use functions::StoreFault;
 use node_answers::Remembered;
 use node_table::NodeTable;
@@ -33,7 +34,7 @@ impl NodeStore {
         let remembered = Remembered::new();
         match NodeStore::check(&words, qubits) {
             Ok(_) => NodeStore {
-                nodes: NodeTable::new(words, qubits),
+                nodes: NodeTable::new(words, QubitCount { number: qubits }),
                 remembered,
             },
             Err(_) => NodeStore {

@@ -1,6 +1,6 @@
 -- Marks go over what is reached.
-use Rattle.std.proofs.Common.{◌≡◌, ℕ, ◌<◌, ◌≤◌, Bool, true, false, eqb, ◌⊎◌, sym, refl, ap, ◌∙◌, subst, inl, inr, ⊎_elim, arith}
-use Rattle.std.proofs.lemmas.Bool.{cases_eq, eqb-true, eqb-false}
+use Rattle.std.proofs.Common.{◌≡◌, ℕ, ◌<◌, ◌≤◌, ◌⊎◌, sym, refl, ap, ◌∙◌, subst, inl, inr, ⊎_elim}
+use Rattle.std.proofs.lemmas.Bool.{cases_eq}
 use Rattle.diagrams.specs.Diagrams.{Diagram, Held, Reduced}
 use Rattle.diagrams.specs.Forming.{Alike}
 use Rattle.diagrams.specs.Reaching.{Reaches, itself, by_low, by_high}
@@ -42,33 +42,14 @@ held_alike s t el e = held_kept (diagram_of s) (diagram_of t) (alike_keeps (diag
 pub held_back : (s t : NodeTable) → t.limit ≡ s.limit → SameButMarks s t → (h : ℕ) → Held (diagram_of t) h → Held (diagram_of s) h
 held_back s t el e = held_kept (diagram_of t) (diagram_of s) (alike_keeps (diagram_of t) (diagram_of s) (alike_back (diagram_of s) (diagram_of t) (marks_alike s t el e)))
 
-pub marks_reduced : (s t : NodeTable) → SameSetting s t → SameButMarks s t → Reduced s.qubits (diagram_of s) → Reduced t.qubits (diagram_of t)
-marks_reduced s t z e o = subst (λ (n : ℕ). Reduced n (diagram_of t)) (sym z.qubits) (alike_reduced s.qubits (diagram_of s) (diagram_of t) (marks_alike s t z.limit e) o)
+pub marks_reduced : (s t : NodeTable) → SameSetting s t → SameButMarks s t → Reduced s.qubits.number (diagram_of s) → Reduced t.qubits.number (diagram_of t)
+marks_reduced s t z e o = subst (λ (n : ℕ). Reduced n (diagram_of t)) (sym z.qubits) (alike_reduced s.qubits.number (diagram_of s) (diagram_of t) (marks_alike s t z.limit e) o)
 
 -- what is reached among the same nodes
 pub reaches_alike : (s t : Diagram) → Alike s t → (h k : ℕ) → Reaches t h k → Reaches s h k
 reaches_alike s t a h k itself = itself
 reaches_alike s t a h k (by_low p r) = let q : 0 < s.height h = rw (a.height h) at p in by_low q (subst (λ (j : ℕ). Reaches s j k) (a.low h q) (reaches_alike s t a (t.low h) k r))
 reaches_alike s t a h k (by_high p r) = let q : 0 < s.height h = rw (a.height h) at p in by_high q (subst (λ (j : ℕ). Reaches s j k) (a.high h q) (reaches_alike s t a (t.high h) k r))
-
-pub not_marked : (t : NodeTable) (h : ℕ) (b : Bool) → b ≡ eqb (mark t h) 1 → b ≡ false → mark t h ≡ 0
-not_marked t h b e f = let ne = eqb-false (mark t h) 1 (sym e ∙ f) in omega arith
-
-pub is_marked : (t : NodeTable) (h : ℕ) (b : Bool) → b ≡ eqb (mark t h) 1 → b ≡ true → mark t h ≡ 1
-is_marked t h b e f = eqb-true (mark t h) 1 (sym e ∙ f)
-
--- nothing is marked anew
-pub marks_nothing : (t : NodeTable) (h : ℕ) → Marked t h → Marks t t h
-marks_nothing t h m = record {
-  same = same_marks_self t;
-  root = m;
-  stays = λ k l f. f;
-  reached = λ k l z f. absurd (never k z f);
-  closed = λ k l z f. absurd (never k z f);
-}
-  where
-    never : (k : ℕ) → mark t k ≡ 0 → mark t k ≡ 1 → ⊥
-    never k z f = omega arith
 
 -- From s to a the node h is marked, from a to b what its low half reaches, and from b to t what its high half reaches.
 pub record Marking (s a b t : NodeTable) (h lo hi : ℕ) : Type 0 where
@@ -136,16 +117,13 @@ module _ (s a b t : NodeTable) (h lo hi : ℕ) (x : Marking s a b t h lo hi) whe
     closed = λ k l z f. close k l (ways k l z f);
   }
 
-pub setting_then : (s t u : NodeTable) → SameSetting s t → SameSetting t u → SameSetting s u
-setting_then s t u x y = record { qubits = y.qubits ∙ x.qubits; limit = y.limit ∙ x.limit }
-
 -- under other marks a diagram is reduced, and the halves of a node are held and lower
 pub record Remarked (s t : NodeTable) (h : ℕ) : Type 0 where
-  pub reduced : Reduced t.qubits (diagram_of t)
+  pub reduced : Reduced t.qubits.number (diagram_of t)
   pub low : (k : ℕ) → k ≡ (diagram_of s).low h → Held (diagram_of t) k × ((diagram_of t).height k < (diagram_of s).height h)
   pub high : (k : ℕ) → k ≡ (diagram_of s).high h → Held (diagram_of t) k × ((diagram_of t).height k < (diagram_of s).height h)
 
-pub remarked : (s t : NodeTable) (h : ℕ) → Reduced s.qubits (diagram_of s) → SameSetting s t → SameButMarks s t → Node s h → Remarked s t h
+pub remarked : (s t : NodeTable) (h : ℕ) → Reduced s.qubits.number (diagram_of s) → SameSetting s t → SameButMarks s t → Node s h → Remarked s t h
 remarked s t h o z e p = record {
   reduced = marks_reduced s t z e o;
   low = λ k q. half k (subst (λ (y : ℕ). Held (diagram_of s) y × ((diagram_of s).height y < (diagram_of s).height h)) (sym q) (o.low_held h p, o.low_later h p));

@@ -1,11 +1,11 @@
 //! Keeping what some handles reach, and freeing the rest.
-ghost use Rattle.std.specs.Prelude.{◌≡◌, ℕ, ◌+◌, ◌<◌, ◌≤◌, ◌==◌, ◌≢◌};
+ghost use Rattle.std.specs.Prelude.{◌≡◌, ℕ, ◌+◌, ◌<◌, ◌≤◌, ◌==◌, ◌≢◌, cond};
 ghost use Rattle.diagrams.specs.Diagrams.{Held, Reduced};
-ghost use Rattle.node_table.specs.Layout.{diagram_of, Node, mark, SameSetting};
+ghost use Rattle.node_table.specs.Layout.{diagram_of, Node, mark, SameSetting, OnlyWords};
 ghost use Rattle.node_table.specs.Ordering.{InOrder};
 ghost use Rattle.node_table.specs.Marking.{SameButMarks, Marks, KeptNodes};
 
-use crate::table::NodeTable;
+use crate::table::{Branch, LINK, MARK, NodeTable, first_word};
 use functions::StoreFault;
 
 impl NodeTable {
@@ -17,10 +17,11 @@ impl NodeTable {
         ensures order { InOrder self.new }
         ensures kept { KeptNodes (diagram_of self.old) (diagram_of self.new) list.now result }
     {
-        self.unmark();
+        self.set_marks(false);
         for h in list {
             if !self.holds(*h) {
-                self.mark_all();
+                // Where `used` stands says nothing of marks then, so that every place has to have one.
+                self.set_marks(true);
                 return Err(StoreFault::NotHeld(*h));
             }
             self.mark(*h);
@@ -31,79 +32,52 @@ impl NodeTable {
         Ok(())
     }
 
-    // Takes every mark away.
-    fn unmark(&mut self)
-        ensures setting { SameSetting self.old self.new }
-        ensures used { self.new.used ≡ self.old.used }
+    // Marks every place, or none.
+    fn set_marks(&mut self, marked: bool)
+        ensures only { OnlyWords self.old self.new }
         ensures same { SameButMarks self.old self.new }
-        ensures none { (h : ℕ) → 2 ≤ h → h < self.old.limit + 2 → mark self.new h ≡ 0 }
+        ensures all { (h : ℕ) → 2 ≤ h → h < self.old.limit + 2 → mark self.new h ≡ cond marked 1 0 }
     {
-        for i in 0..self.limit {
-            let at = 4 * i as usize;
-            let w = self.words[at];
-            if w / 32 % 2 == 1 {
-                self.words[at] = w - 32;
-            }
-        }
-    }
-
-    // Marks every place: every node then counts as kept, so the marks are in order wherever `used` stands.
-    fn mark_all(&mut self)
-        ensures setting { SameSetting self.old self.new }
-        ensures used { self.new.used ≡ self.old.used }
-        ensures same { SameButMarks self.old self.new }
-        ensures all { (h : ℕ) → 2 ≤ h → h < self.old.limit + 2 → mark self.new h ≡ 1 }
-    {
-        for i in 0..self.limit {
-            let at = 4 * i as usize;
-            let w = self.words[at];
-            if w / 32 % 2 == 0 {
-                self.words[at] = w + 32;
-            }
+        for h in 2..self.limit + 2 {
+            self.set_mark(h, marked);
         }
     }
 
     // Marks what a handle reaches, unless it is marked.
+    #[tactic(auto, using(crate::proofs::Layouts::node_at))]
     fn mark(&mut self, h: u32)
-        requires reduced { Reduced self.old.qubits (diagram_of self.old) }
+        requires reduced { Reduced self.old.qubits.number (diagram_of self.old) }
         requires held { Held (diagram_of self.old) h }
-        ensures setting { SameSetting self.old self.new }
-        ensures used { self.new.used ≡ self.old.used }
+        ensures only { OnlyWords self.old self.new }
         ensures marks { Marks self.old self.new h }
     {
-        if h < 2 {
+        if h < 2 || self.marked(h) {
             return;
         }
-        if self.marked(h) {
-            return;
-        }
-        let low = self.low(h);
-        let high = self.high(h);
-        self.set_mark(h);
+        let Branch { low, high, .. } = self.branch(h);
+        self.set_mark(h, true);
         self.mark(low);
         self.mark(high);
     }
 
-    // Whether a node is marked.
-    fn marked(&self, h: u32) -> bool
-        requires { Node self.now h }
+    // Whether a place is marked.
+    pub(crate) fn marked(&self, h: u32) -> bool
+        requires { (2 ≤ h) × (h < self.now.limit + 2) }
         ensures { result ≡ (mark self.now h == 1) }
     {
-        self.words[4 * (h as usize - 2)] / 32 % 2 == 1
+        self.node(h)[0] / MARK % 2 == 1
     }
 
-    // Marks one node.
-    fn set_mark(&mut self, h: u32)
-        requires used { Node self.old h }
-        requires unmarked { mark self.old h ≡ 0 }
-        ensures setting { SameSetting self.old self.new }
-        ensures used { self.new.used ≡ self.old.used }
+    // Marks a place, or takes its mark away.
+    fn set_mark(&mut self, h: u32, marked: bool)
+        requires { (2 ≤ h) × (h < self.old.limit + 2) }
+        ensures only { OnlyWords self.old self.new }
         ensures same { SameButMarks self.old self.new }
-        ensures marked { mark self.new h ≡ 1 }
+        ensures marked { mark self.new h ≡ cond marked 1 0 }
         ensures others { (k : ℕ) → 2 ≤ k → (k ≢ h) → mark self.new k ≡ mark self.old k }
     {
-        let at = 4 * (h as usize - 2);
-        let w = self.words[at];
-        self.words[at] = w + 32;
+        let at = first_word(h);
+        let word = self.words[at];
+        self.words[at] = word / LINK * LINK + MARK * u32::from(marked) + word % MARK;
     }
 }

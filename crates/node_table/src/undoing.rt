@@ -1,10 +1,10 @@
 //! Taking back what was made.
 ghost use Rattle.std.specs.Prelude.{◌≡◌, ◌≤◌};
-ghost use Rattle.node_table.specs.Layout.{SameSetting};
+ghost use Rattle.node_table.specs.Layout.{SameSetting, OnlyWords};
 ghost use Rattle.node_table.specs.Ordering.{InOrder, Grown};
 ghost use Rattle.node_table.specs.Freeing.{Freed, Restored};
 
-use crate::table::NodeTable;
+use crate::table::{NodeTable, first_word};
 
 impl NodeTable {
     /// Takes back every node made since the table had this number `used`.
@@ -21,14 +21,12 @@ impl NodeTable {
     // Frees the places of a range that are not marked.
     pub(crate) fn free_unmarked(&mut self, from: u32, to: u32)
         requires { (from ≤ to) × (to ≤ self.old.limit) }
-        ensures setting { SameSetting self.old self.new }
-        ensures used { self.new.used ≡ self.old.used }
+        ensures only { OnlyWords self.old self.new }
         ensures freed { Freed self.old self.new from to }
     {
-        for i in from..to {
-            let at = 4 * i as usize;
-            if self.words[at] / 32 % 2 == 0 {
-                self.words[at] = 0;
+        for h in from + 2..to + 2 {
+            if !self.marked(h) {
+                self.words[first_word(h)] = 0;
             }
         }
     }

@@ -1,11 +1,11 @@
-use Rattle.std.proofs.Common.{◌≡◌, ◌≤◌, arith}
-use Rattle.node_answers.specs.declared.answered.Answered.{Answered}
-use Rattle.node_answers.specs.Answers.{Right}
-use Rattle.node_answers.proofs.Slots.{in_empty}
+use Rattle.std.proofs.Common.{IfSome}
+use Rattle.std.proofs.lemmas.List.Elements.{All-replicate}
+use Rattle.node_answers.specs.Answers.{Right, slot_of}
+use Rattle.node_answers.proofs.Slots.{nothing_in, slot_below}
 use Rattle.node_answers.proofs.remembered.Remembered.new.Goals as goal
 
-pub invariant_of-result : goal.invariant_of-result
-invariant_of-result c = record { dated = in_empty 4096 (λ (e : Answered). e.generation ≤ 1) _ (omega arith) }
+pub returns-clause-none : goal.returns-clause-none
+returns-clause-none c q a e = nothing_in 4096 (slot_of q) _ (slot_below q) e
 
-pub returns : goal.returns
-returns c s = record { right = in_empty 4096 (λ (e : Answered). e.generation ≡ 1 → Right s e.question e.answer) _ (λ e. absurd (omega arith)) }
+pub returns-clause-sound : goal.returns-clause-sound
+returns-clause-sound c s = All-replicate (λ e. IfSome e (λ x. Right s x.question x.answer)) 4096 _ tt

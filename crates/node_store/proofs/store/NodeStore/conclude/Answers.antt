@@ -10,4 +10,4 @@ pub returns-in-None : goal.returns-in-None
 returns-in-None c old f x =
     concluded_none old c.args.self.now f c.args.used (subst (Tried old c.args.self.now f c.args.used) c.in-None.is x)
     c.undo.new.self c.undo.ensures.setting.qubits c.undo.ensures.setting.limit (c.undo.ensures.restored old.nodes x.order.nodes x.forms.grown x.since)
-    c.forget.new.self c.forget.ensures c.limit.result c.limit.ensures
+    c.forget.new.self c.forget.ensures.sound c.limit.result c.limit.ensures
