@@ -122,7 +122,7 @@ pub record Steps (s a u : NodeTable) (i m low high : ℕ) : Type 0 where
   pub room : i < s.limit
   pub passed : AllNodes s s.used i
   pub free : (diagram_of s).height (i + 2) ≡ 0
-  pub fits : Fits s.qubits (diagram_of s) m low high
+  pub fits : Fits s.qubits.number (diagram_of s) m low high
   pub setting_a : SameSetting s a
   pub written : Written s a i m low high
   pub setting_u : SameSetting a u
@@ -159,7 +159,7 @@ module _ (s a u : NodeTable) (i m low high : ℕ) (x : Steps s a u i m low high)
   limit_u = x.setting_u.limit ∙ x.setting_a.limit
 
   small : m ≤ 16
-  small = omega (arith, x.fits.within, s.few)
+  small = omega (arith, x.fits.within, s.qubits.within)
 
   word_old : (h k : ℕ) → k ≤ 2 → 2 ≤ h → (h ≡ i + 2 → ⊥) → word u h k ≡ word s h k
   word_old h k le l ne = ⊎_elim zero' (λ n0. ⊎_elim one' (λ n1. two' (omega arith)) (cases_eq k 1)) (cases_eq k 0) ∙ x.written.others h k le l ne
@@ -222,14 +222,14 @@ module _ (s a u : NodeTable) (i m low high : ℕ) (x : Steps s a u i m low high)
   pub steps_order : InOrder u
   steps_order = record {
     some = rw qubits_u x.order.some;
-    reduced = subst (λ (n : ℕ). Reduced n (diagram_of u)) (sym qubits_u) (added_reduced s.qubits (diagram_of s) (diagram_of u) (i + 2) m low high x.order.reduced steps_added x.fits);
+    reduced = subst (λ (n : ℕ). Reduced n (diagram_of u)) (sym qubits_u) (added_reduced s.qubits.number (diagram_of s) (diagram_of u) (i + 2) m low high x.order.reduced steps_added x.fits);
     in_limit = λ h l. height_past u h l;
     filled = λ h l p. filled' h l p (cases_eq h (i + 2)) (cases_lt h (s.used + 2));
     marked = λ h l p. marked' h l p (node_cases h p);
     chains = chained_more (suc (s.limit + s.used)) (u.limit + u.used) _ _ _ _ _ (omega (arith, limit_u, x.used, x.after)) steps_chains;
   }
     where
-      qubits_u : u.qubits ≡ s.qubits
+      qubits_u : u.qubits.number ≡ s.qubits.number
       qubits_u = x.setting_u.qubits ∙ x.setting_a.qubits
 
       filled' : (h : ℕ) → 2 ≤ h → h < u.used + 2 → (h ≡ i + 2) ⊎ (h ≡ i + 2 → ⊥) → (h < s.used + 2) ⊎ (s.used + 2 ≤ h) → Node u h
@@ -248,7 +248,7 @@ module _ (s a u : NodeTable) (i m low high : ℕ) (x : Steps s a u i m low high)
   steps_grown = record {
     qubits = x.setting_u.qubits ∙ x.setting_a.qubits;
     limit = limit_u;
-    keeps = added_keeps s.qubits (diagram_of s) (diagram_of u) (i + 2) m low high x.order.reduced steps_added;
+    keeps = added_keeps s.qubits.number (diagram_of s) (diagram_of u) (i + 2) m low high x.order.reduced steps_added;
     onward = omega (arith, x.used, x.after);
     word_0 = λ h p. word_old h 0 (omega arith) (node_two s h p) (apart h p);
     new = λ h z p. new' h z p (node_cases h p);
@@ -265,7 +265,7 @@ module _ (s a u : NodeTable) (i m low high : ℕ) (x : Steps s a u i m low high)
       new' h z p (inr e) = (omega (arith, x.after), omega (arith, x.used), ap (mark u) e ∙ ap (λ (y : ℕ). y / 32 % 2) first ∙ rest m (head a (chain_of a (i + 2))) small)
 
   pub steps_joined : Joined (diagram_of s) (diagram_of u) m low high (i + 2)
-  steps_joined = added_joined s.qubits (diagram_of s) (diagram_of u) (i + 2) m low high x.order.reduced steps_added
+  steps_joined = added_joined s.qubits.number (diagram_of s) (diagram_of u) (i + 2) m low high x.order.reduced steps_added
 
 -- where nothing is added
 pub joined_equal : (s : Diagram) (m low high : ℕ) → low ≡ high → Joined s s m low high low

@@ -1,10 +1,15 @@
 -- A table without nodes.
-use Rattle.std.proofs.Common.{◌≡◌, ℕ, ◌+◌, ◌-◌, ◌*◌, ◌%◌, ◌<◌, ◌≤◌, ◌⊎◌, get_or, vec_items, ap, ◌∙◌, inl, inr, arith}
+use Rattle.std.proofs.Common.{◌≡◌, ℕ, ◌+◌, ◌-◌, ◌*◌, ◌%◌, ◌<◌, ◌≤◌, ◌⊎◌, List, get_or, take, ◌++◌, length, vec_items, ap, ◌∙◌, inl, inr, arith, rules}
+use Rattle.std.proofs.lemmas.List.{get_or-take, get_or_append_left}
 use Rattle.std.proofs.lemmas.Bool.{cases_lt}
 use Rattle.node_table.specs.declared.table.NodeTable.{NodeTable}
 use Rattle.node_table.specs.Layout.{diagram_of, Node, head}
 use Rattle.node_table.specs.Ordering.{InOrder}
 use Rattle.node_table.proofs.Layouts.{height_constant, height_past, height_node, link_constant}
+
+-- what a front that was written holds
+pub read_front : (front rest : List ℕ) (size k : ℕ) → k < length front → length front ≤ size → get_or (take size (front ++ rest)) k 0 ≡ get_or front k 0
+read_front front rest size k l m = search (rules, get_or-take, get_or_append_left)
 
 module _ (t : NodeTable) (z : (k : ℕ) → k < 4 * t.limit → get_or (vec_items t.words) k 0 ≡ 0) where
   pub no_nodes : (h : ℕ) → (diagram_of t).height h ≡ 0
@@ -21,7 +26,7 @@ module _ (t : NodeTable) (z : (k : ℕ) → k < 4 * t.limit → get_or (vec_item
       never : (diagram_of t).height h ≡ 0 → ⊥
       never e = omega arith
 
-  pub empty_order : 1 ≤ t.qubits → t.used ≡ 0 → InOrder t
+  pub empty_order : 1 ≤ t.qubits.number → t.used ≡ 0 → InOrder t
   empty_order some unused = record {
     some = some;
     reduced = record {

@@ -42,8 +42,8 @@ held_alike s t el e = held_kept (diagram_of s) (diagram_of t) (alike_keeps (diag
 pub held_back : (s t : NodeTable) → t.limit ≡ s.limit → SameButMarks s t → (h : ℕ) → Held (diagram_of t) h → Held (diagram_of s) h
 held_back s t el e = held_kept (diagram_of t) (diagram_of s) (alike_keeps (diagram_of t) (diagram_of s) (alike_back (diagram_of s) (diagram_of t) (marks_alike s t el e)))
 
-pub marks_reduced : (s t : NodeTable) → SameSetting s t → SameButMarks s t → Reduced s.qubits (diagram_of s) → Reduced t.qubits (diagram_of t)
-marks_reduced s t z e o = subst (λ (n : ℕ). Reduced n (diagram_of t)) (sym z.qubits) (alike_reduced s.qubits (diagram_of s) (diagram_of t) (marks_alike s t z.limit e) o)
+pub marks_reduced : (s t : NodeTable) → SameSetting s t → SameButMarks s t → Reduced s.qubits.number (diagram_of s) → Reduced t.qubits.number (diagram_of t)
+marks_reduced s t z e o = subst (λ (n : ℕ). Reduced n (diagram_of t)) (sym z.qubits) (alike_reduced s.qubits.number (diagram_of s) (diagram_of t) (marks_alike s t z.limit e) o)
 
 -- what is reached among the same nodes
 pub reaches_alike : (s t : Diagram) → Alike s t → (h k : ℕ) → Reaches t h k → Reaches s h k
@@ -141,11 +141,11 @@ setting_then s t u x y = record { qubits = y.qubits ∙ x.qubits; limit = y.limi
 
 -- under other marks a diagram is reduced, and the halves of a node are held and lower
 pub record Remarked (s t : NodeTable) (h : ℕ) : Type 0 where
-  pub reduced : Reduced t.qubits (diagram_of t)
+  pub reduced : Reduced t.qubits.number (diagram_of t)
   pub low : (k : ℕ) → k ≡ (diagram_of s).low h → Held (diagram_of t) k × ((diagram_of t).height k < (diagram_of s).height h)
   pub high : (k : ℕ) → k ≡ (diagram_of s).high h → Held (diagram_of t) k × ((diagram_of t).height k < (diagram_of s).height h)
 
-pub remarked : (s t : NodeTable) (h : ℕ) → Reduced s.qubits (diagram_of s) → SameSetting s t → SameButMarks s t → Node s h → Remarked s t h
+pub remarked : (s t : NodeTable) (h : ℕ) → Reduced s.qubits.number (diagram_of s) → SameSetting s t → SameButMarks s t → Node s h → Remarked s t h
 remarked s t h o z e p = record {
   reduced = marks_reduced s t z e o;
   low = λ k q. half k (subst (λ (y : ℕ). Held (diagram_of s) y × ((diagram_of s).height y < (diagram_of s).height h)) (sym q) (o.low_held h p, o.low_later h p));

@@ -76,7 +76,7 @@ module _ (old s a t : NodeTable) (x : Undoing old s a t) where
     alike = restored_alike;
     order = record {
       some = rw qubits_t x.order.some;
-      reduced = subst (λ (n : ℕ). Reduced n (diagram_of t)) (sym qubits_t) (alike_reduced old.qubits (diagram_of old) (diagram_of t) restored_alike x.order.reduced);
+      reduced = subst (λ (n : ℕ). Reduced n (diagram_of t)) (sym qubits_t) (alike_reduced old.qubits.number (diagram_of old) (diagram_of t) restored_alike x.order.reduced);
       in_limit = λ h l. height_past t h l;
       filled = λ h l m. rw (restored_alike.height h) (x.order.filled h l (omega (arith, x.used)));
       marked = λ h l p.
@@ -86,5 +86,5 @@ module _ (old s a t : NodeTable) (x : Undoing old s a t) where
     };
   }
     where
-      qubits_t : t.qubits ≡ old.qubits
+      qubits_t : t.qubits.number ≡ old.qubits.number
       qubits_t = x.setting_t.qubits ∙ x.setting_a.qubits ∙ x.grown.qubits

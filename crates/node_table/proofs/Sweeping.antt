@@ -193,13 +193,13 @@ module _ (s a b c t : NodeTable) (list : List ℕ) (x : Sweep s a b c t list) wh
   }
 
   node_of : (h : ℕ) → Node t h → (mark b h ≡ 1) × ((diagram_of t).height h ≡ (diagram_of s).height h)
-  node_of h p = chosen_node s.qubits (diagram_of s) (diagram_of t) (λ k. mark b k ≡ 1) chosen_t x.order.reduced h p
+  node_of h p = chosen_node s.qubits.number (diagram_of s) (diagram_of t) (λ k. mark b k ≡ 1) chosen_t x.order.reduced h p
 
   pub swept_kept : Swept (diagram_of s) (diagram_of t) list
   swept_kept = record {
-    same = chosen_keeps s.qubits (diagram_of s) (diagram_of t) (λ k. mark b k ≡ 1) chosen_t x.order.reduced;
+    same = chosen_keeps s.qubits.number (diagram_of s) (diagram_of t) (λ k. mark b k ≡ 1) chosen_t x.order.reduced;
     reached = reached';
-    stays = λ i l k r. chosen_reach s.qubits (diagram_of s) (diagram_of t) (λ h. mark b h ≡ 1) chosen_t x.order.reduced (get_or list i 0) k (held_back s a x.setting_a.limit x.same_a (get_or list i 0) (x.marks.held i l)) (x.marks.roots i l) r;
+    stays = λ i l k r. chosen_reach s.qubits.number (diagram_of s) (diagram_of t) (λ h. mark b h ≡ 1) chosen_t x.order.reduced (get_or list i 0) k (held_back s a x.setting_a.limit x.same_a (get_or list i 0) (x.marks.held i l)) (x.marks.roots i l) r;
   }
     where
       reached' : (k : ℕ) → Node t k → (i : ℕ) × (i < length list) × Reaches (diagram_of s) (get_or list i 0) k
@@ -212,7 +212,7 @@ module _ (s a b c t : NodeTable) (list : List ℕ) (x : Sweep s a b c t list) wh
   pub swept_order : InOrder t
   swept_order = record {
     some = rw swept_setting.qubits x.order.some;
-    reduced = subst (λ (n : ℕ). Reduced n (diagram_of t)) (sym swept_setting.qubits) (swept_reduced s.qubits (diagram_of s) (diagram_of t) x.order.reduced list swept_kept);
+    reduced = subst (λ (n : ℕ). Reduced n (diagram_of t)) (sym swept_setting.qubits) (swept_reduced s.qubits.number (diagram_of s) (diagram_of t) x.order.reduced list swept_kept);
     in_limit = λ h l. height_past t h l;
     filled = λ h l m. absurd (before h l m);
     marked = λ h l p.

@@ -34,5 +34,5 @@ head t b = slice_index (vec_items t.words) (4 * b + 3)
 
 -- no call changes these
 pub record SameSetting (s t : NodeTable) : Type 0 where
-  pub qubits : t.qubits ≡ s.qubits
+  pub qubits : t.qubits.number ≡ s.qubits.number
   pub limit : t.limit ≡ s.limit

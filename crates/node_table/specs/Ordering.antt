@@ -10,8 +10,8 @@ use Rattle.node_table.specs.Chains.{Chains}
 -- The nodes are a reduced ordered diagram; every place before `used` has one, every node from there on is marked, and all
 -- stand in their chains.
 pub record InOrder (t : NodeTable) : Type 0 where
-  pub some : 1 ≤ t.qubits
-  pub reduced : Reduced t.qubits (diagram_of t)
+  pub some : 1 ≤ t.qubits.number
+  pub reduced : Reduced t.qubits.number (diagram_of t)
   pub in_limit : (h : ℕ) → t.limit + 2 ≤ h → (diagram_of t).height h ≡ 0
   pub filled : (h : ℕ) → 2 ≤ h → h < t.used + 2 → Node t h
   pub marked : (h : ℕ) → t.used + 2 ≤ h → Node t h → mark t h ≡ 1
@@ -19,7 +19,7 @@ pub record InOrder (t : NodeTable) : Type 0 where
 
 -- From s to t, nodes were added: what was a node is as it was, and what is new stands between the two `used`, unmarked.
 pub record Grown (s t : NodeTable) : Type 0 where
-  pub qubits : t.qubits ≡ s.qubits
+  pub qubits : t.qubits.number ≡ s.qubits.number
   pub limit : t.limit ≡ s.limit
   pub keeps : Keeps (diagram_of s) (diagram_of t)
   pub onward : s.used ≤ t.used

@@ -13,7 +13,7 @@ impl NodeTable {
     /// is made if there is none. `None` if there is none and no place is free.
     pub fn join(&mut self, height: u32, low: u32, high: u32) -> Option<u32>
         requires order { InOrder self.old }
-        requires level { (0 < height) × (height ≤ self.old.qubits) }
+        requires level { (0 < height) × (height ≤ self.old.qubits.number) }
         requires lows { Held (diagram_of self.old) low × ((diagram_of self.old).height low < height) }
         requires highs { Held (diagram_of self.old) high × ((diagram_of self.old).height high < height) }
         ensures order { InOrder self.new }
@@ -53,7 +53,7 @@ impl NodeTable {
         requires room { (self.old.used ≤ place) × (place < self.old.limit) }
         requires passed { AllNodes self.old self.old.used place }
         requires free { (diagram_of self.old).height (place + 2) ≡ 0 }
-        requires fits { Fits self.old.qubits (diagram_of self.old) height low high }
+        requires fits { Fits self.old.qubits.number (diagram_of self.old) height low high }
         ensures order { InOrder self.new }
         ensures grown { Grown self.old self.new }
         ensures joined { Joined (diagram_of self.old) (diagram_of self.new) height low high result }

@@ -65,7 +65,7 @@ impl NodeTable {
 
     // Marks what a handle reaches, unless it is marked.
     fn mark(&mut self, h: u32)
-        requires reduced { Reduced self.old.qubits (diagram_of self.old) }
+        requires reduced { Reduced self.old.qubits.number (diagram_of self.old) }
         requires held { Held (diagram_of self.old) h }
         ensures setting { SameSetting self.old self.new }
         ensures used { self.new.used ≡ self.old.used }

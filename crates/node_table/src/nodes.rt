@@ -1,63 +1,52 @@
 //! Making a table, and reading its nodes.
-ghost use Rattle.std.specs.Prelude.{◌≡◌, ℕ, ◌+◌, ◌*◌, ◌/◌, ◌<◌, ◌≤◌, min, vec_len, Decides, slice_index};
+ghost use Rattle.std.specs.Prelude.{◌≡◌, ℕ, ◌+◌, ◌*◌, ◌/◌, ◌<◌, ◌≤◌, min, length, vec_len, Decides, slice_index};
 ghost use Rattle.diagrams.specs.Diagrams.{Held};
 ghost use Rattle.node_table.specs.Layout.{diagram_of, SameSetting};
 ghost use Rattle.node_table.specs.Ordering.{InOrder};
 
 use crate::table::NodeTable;
+use exact::QubitCount;
 
 impl NodeTable {
     /// An empty table over the whole nodes of the words, of which it takes 65,536 at most. The words may hold anything.
-    pub fn new(words: Vec<u32>, qubits: u32) -> NodeTable
-        requires { (1 ≤ qubits) × (qubits ≤ 16) }
-        ensures qubits { result.qubits ≡ qubits }
+    pub fn new(mut words: Vec<u32>, qubits: QubitCount<16>) -> NodeTable
+        requires { 1 ≤ qubits.number }
+        ensures qubits { result.qubits.number ≡ qubits.number }
         ensures limit { result.limit ≡ min (vec_len words / 4) 65536 }
         ensures order { InOrder result }
         ensures empty { (h : ℕ) → (diagram_of result).height h ≡ 0 }
     {
         let limit = (words.len() / 4).min(65536);
-        let mut table = NodeTable {
+        clear(&mut words, 4 * limit);
+        NodeTable {
             qubits,
             limit: limit as u32,
             used: 0,
             words,
-        };
-        table.clear();
-        table
+        }
     }
 
     /// A table of one qubit that has no place for a node, and leaves the words as they are.
     pub fn none(words: Vec<u32>) -> NodeTable
-        ensures qubits { result.qubits ≡ 1 }
+        ensures qubits { result.qubits.number ≡ 1 }
         ensures limit { result.limit ≡ 0 }
         ensures words { result.words.items ≡ words.items }
         ensures order { InOrder result }
         ensures empty { (h : ℕ) → (diagram_of result).height h ≡ 0 }
     {
         NodeTable {
-            qubits: 1,
+            qubits: QubitCount { number: 1 },
             limit: 0,
             used: 0,
             words,
         }
     }
 
-    // Makes every word of a place 0.
-    fn clear(&mut self)
-        ensures setting { SameSetting self.old self.new }
-        ensures used { self.new.used ≡ self.old.used }
-        ensures zero { (k : ℕ) → k < 4 * self.old.limit → slice_index self.new.words.items k ≡ 0 }
-    {
-        for i in 0..4 * self.limit as usize {
-            self.words[i] = 0;
-        }
-    }
-
     /// The number of qubits of the diagram.
     pub fn qubits(&self) -> u32
-        ensures { result ≡ self.now.qubits }
+        ensures { result ≡ self.now.qubits.number }
     {
-        self.qubits
+        self.qubits.number
     }
 
     /// The number of places for nodes.
@@ -109,4 +98,13 @@ impl NodeTable {
     {
         h < 2 || self.height(h) != 0
     }
+}
+
+// Makes the first words 0.
+fn clear(words: &mut [u32], count: usize)
+    requires { count ≤ length words.old }
+    ensures len { length words.new ≡ length words.old }
+    ensures zero { (k : ℕ) → k < count → slice_index words.new k ≡ 0 }
+{
+    words[..count].fill(0);
 }

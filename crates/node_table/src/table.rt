@@ -1,6 +1,8 @@
 //! A table of nodes in given words.
 ghost use Rattle.std.specs.Prelude.{◌*◌, ◌≤◌, vec_len};
 
+use exact::QubitCount;
+
 /// The nodes of a diagram of up to 16 qubits, four words for each node. Handle h of 2 and more is the node at place h - 2, in
 /// the words from 4 (h - 2) on:
 ///
@@ -11,12 +13,11 @@ ghost use Rattle.std.specs.Prelude.{◌*◌, ◌≤◌, vec_len};
 /// Words past those of the last place are not used.
 #[derive(Drop)]
 pub struct NodeTable {
-    pub(crate) qubits: u32,
+    pub(crate) qubits: QubitCount<16>,
     pub(crate) limit: u32,
     // Every place before this one has a node, and every node from it on has the mark of a keep.
     pub(crate) used: u32,
     pub(crate) words: Vec<u32>,
-    ghost few: { qubits ≤ 16 },
     ghost placed: { used ≤ limit },
     ghost small: { limit ≤ 65536 },
     ghost sized: { 4 * limit ≤ vec_len words },

@@ -12,7 +12,7 @@ attach-requires c =
     let written : Written s a c.args.place c.args.height c.args.low c.args.high = record { word_0 = w.word_0; word_1 = w.word_1; word_2 = w.word_2; others = w.others; heads = w.heads } in
     record {
       room = omega (arith, limit, c.requires.room);
-      used = written_node s a c.args.place c.args.height c.args.low c.args.high limit c.requires.free written c.requires.room.1 c.requires.fits.positive (omega (arith, c.requires.fits.within, s.few));
+      used = written_node s a c.args.place c.args.height c.args.low c.args.high limit c.requires.free written c.requires.room.1 c.requires.fits.positive (omega (arith, c.requires.fits.within, s.qubits.within));
       heads = written_heads s a c.args.place c.args.height c.args.low c.args.high limit written c.requires.order;
     }
 

@@ -1,15 +1,13 @@
-use Rattle.std.proofs.Common.{◌≡◌, ℕ, ◌*◌, ◌<◌, get_or, vec_items, ◌∙◌, arith}
-use Rattle.node_table.proofs.Empties.{no_nodes, empty_order}
+use Rattle.std.proofs.Common.{drop, length, ◌∙◌, refl, arith}
+use Rattle.node_table.proofs.Empties.{read_front, no_nodes, empty_order}
 use Rattle.node_table.proofs.table.NodeTable.new.Goals as goal
 
-pub returns : goal.returns
-returns c =
-    let t = c.clear.new.self in
-    let e = c.clear.ensures in
-    let z : (k : ℕ) → k < 4 * t.limit → get_or (vec_items t.words) k 0 ≡ 0 = λ k l. e.zero k (omega (arith, e.setting.limit)) in
-    record {
-      qubits = e.setting.qubits;
-      limit = e.setting.limit ∙ omega (arith, c.min-limit.ensures, c.len.ensures);
-      order = empty_order t z (omega (arith, e.setting.qubits, c.requires)) e.used;
-      empty = no_nodes t z;
-    }
+pub returns-clause-order : goal.returns-clause-order
+returns-clause-order c =
+    let n = c.clear.ensures in
+    empty_order _ (λ k l. read_front c.clear.new.words (drop (length c.clear.new.words) c.args.words.items) c.args.words.len k (omega (arith, n.len)) (omega (arith, n.len)) ∙ n.zero k l) c.requires refl
+
+pub returns-clause-empty : goal.returns-clause-empty
+returns-clause-empty c =
+    let n = c.clear.ensures in
+    no_nodes _ (λ k l. read_front c.clear.new.words (drop (length c.clear.new.words) c.args.words.items) c.args.words.len k (omega (arith, n.len)) (omega (arith, n.len)) ∙ n.zero k l)
