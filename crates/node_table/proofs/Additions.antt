@@ -1,5 +1,5 @@
 -- A node more.
-use Rattle.std.proofs.Common.{◌≡◌, ℕ, suc, ◌+◌, ◌*◌, ◌/◌, ◌%◌, ◌<◌, ◌≤◌, ◌⊎◌, sym, refl, ap, ◌∙◌, subst, inl, inr, ⊎_elim, arith}
+use Rattle.std.proofs.Common.{◌≡◌, ℕ, suc, ◌+◌, ◌-◌, ◌*◌, ◌/◌, ◌%◌, ◌<◌, ◌≤◌, ◌⊎◌, sym, refl, ap, ◌∙◌, subst, inl, inr, ⊎_elim, arith}
 use Rattle.std.proofs.lemmas.Bool.{cases_eq, cases_lt}
 use Rattle.diagrams.specs.Diagrams.{Diagram, Held, Reduced}
 use Rattle.diagrams.specs.Forming.{Keeps, IsNode, NoRoom, Joined}
@@ -8,7 +8,7 @@ use Rattle.node_table.specs.declared.table.NodeTable.{NodeTable}
 use Rattle.node_table.specs.Layout.{diagram_of, word, Node, head, mark, SameSetting}
 use Rattle.node_table.specs.Chains.{chain_of, Chains, Attached, SmallHeads}
 use Rattle.node_table.specs.Ordering.{InOrder, Grown}
-use Rattle.node_table.specs.Adding.{AllNodes, Fits, Written}
+use Rattle.node_table.specs.Adding.{AllNodes, FirstFree, Fits, Written}
 use Rattle.node_table.proofs.Layouts.{height_past, height_node, node_two, node_within, same_height, same_low, same_high, low_is, high_is}
 use Rattle.node_table.proofs.Walks.{chained_more}
 use Rattle.node_table.proofs.Rebuilding.{SameLinks, chains_agree, attached_chains, small_heads}
@@ -115,24 +115,21 @@ module _ (n : ℕ) (s t : Diagram) (k m low high : ℕ) (o : Reduced n s) (a : A
       no_double = λ g h p e0 e1 e2. double' g h p e0 e1 e2 (cases_eq g k) (cases_eq h k);
     }
 
--- From s to a a node is written at place i, and from a to u it is put into its chain.
-pub record Steps (s a u : NodeTable) (i m low high : ℕ) : Type 0 where
+-- From s to a the free handle k is written, and from a to u it is put into its chain.
+pub record Steps (s a u : NodeTable) (k m low high : ℕ) : Type 0 where
   pub order : InOrder s
-  pub after : s.used ≤ i
-  pub room : i < s.limit
-  pub passed : AllNodes s s.used i
-  pub free : (diagram_of s).height (i + 2) ≡ 0
+  pub free : FirstFree s k
   pub fits : Fits s.qubits.number (diagram_of s) m low high
   pub setting_a : SameSetting s a
-  pub written : Written s a i m low high
+  pub written : Written s a k m low high
   pub setting_u : SameSetting a u
-  pub attached : Attached a u i
-  pub used : u.used ≡ i + 1
+  pub attached : Attached a u k
+  pub used : u.used ≡ k - 1
 
 -- the first step
-module _ (s a : NodeTable) (i m low high : ℕ) (el : a.limit ≡ s.limit) (free : (diagram_of s).height (i + 2) ≡ 0) (w : Written s a i m low high) where
-  node_apart : (h : ℕ) → Node s h → h ≡ i + 2 → ⊥
-  node_apart h p e = let q : (diagram_of s).height h ≡ (diagram_of s).height (i + 2) = ap (diagram_of s).height e in omega arith
+module _ (s a : NodeTable) (k m low high : ℕ) (el : a.limit ≡ s.limit) (free : (diagram_of s).height k ≡ 0) (w : Written s a k m low high) where
+  node_apart : (h : ℕ) → Node s h → h ≡ k → ⊥
+  node_apart h p e = let q : (diagram_of s).height h ≡ (diagram_of s).height k = ap (diagram_of s).height e in omega arith
 
   same_links : (h : ℕ) → Node s h → SameLinks s a h
   same_links h p =
@@ -145,48 +142,51 @@ module _ (s a : NodeTable) (i m low high : ℕ) (el : a.limit ≡ s.limit) (free
         high = same_high s a h (w.others h 2 (omega arith) l ne);
       }
 
-  pub written_node : i < s.limit → 0 < m → m ≤ 16 → Node a (i + 2)
-  written_node lt pos le = let e = height_node a (i + 2) (omega arith) (omega arith) in omega (arith, e, w.word_0)
+  pub written_node : 2 ≤ k → k < s.limit + 2 → 0 < m → m ≤ 16 → Node a k
+  written_node two lt pos le = let e = height_node a k two (omega arith) in omega (arith, e, w.word_0)
 
   pub written_chains : (bound : ℕ) → Chains s bound (Node s) → Chains a bound (Node s)
   written_chains bound x = chains_agree s a bound (Node s) (Node s) el (λ h p. p) (λ h p. p) (λ h p. p) same_links w.heads x
 
-pub written_heads : (s a : NodeTable) (i m low high : ℕ) → a.limit ≡ s.limit → Written s a i m low high → InOrder s → SmallHeads a
-written_heads s a i m low high el w o b l = rw (w.heads b) (small_heads s (s.limit + s.used) (Node s) (node_within s) o.chains b (omega arith))
+pub written_heads : (s a : NodeTable) (k m low high : ℕ) → a.limit ≡ s.limit → Written s a k m low high → InOrder s → SmallHeads a
+written_heads s a k m low high el w o b l = rw (w.heads b) (small_heads s (s.limit + s.used) (Node s) (node_within s) o.chains b (omega arith))
 
-module _ (s a u : NodeTable) (i m low high : ℕ) (x : Steps s a u i m low high) where
+module _ (s a u : NodeTable) (k m low high : ℕ) (x : Steps s a u k m low high) where
   limit_u : u.limit ≡ s.limit
   limit_u = x.setting_u.limit ∙ x.setting_a.limit
 
   small : m ≤ 16
   small = omega (arith, x.fits.within, s.qubits.within)
 
-  word_old : (h k : ℕ) → k ≤ 2 → 2 ≤ h → (h ≡ i + 2 → ⊥) → word u h k ≡ word s h k
-  word_old h k le l ne = ⊎_elim zero' (λ n0. ⊎_elim one' (λ n1. two' (omega arith)) (cases_eq k 1)) (cases_eq k 0) ∙ x.written.others h k le l ne
+  word_old : (h j : ℕ) → j ≤ 2 → 2 ≤ h → (h ≡ k → ⊥) → word u h j ≡ word s h j
+  word_old h j le l ne = ⊎_elim zero' (λ n0. ⊎_elim one' (λ n1. two' (omega arith)) (cases_eq j 1)) (cases_eq j 0) ∙ x.written.others h j le l ne
     where
-      zero' : k ≡ 0 → word u h k ≡ word a h k
+      zero' : j ≡ 0 → word u h j ≡ word a h j
       zero' e = rw e (x.attached.others h l ne)
 
-      one' : k ≡ 1 → word u h k ≡ word a h k
+      one' : j ≡ 1 → word u h j ≡ word a h j
       one' e = rw e (x.attached.word_1 h)
 
-      two' : k ≡ 2 → word u h k ≡ word a h k
+      two' : j ≡ 2 → word u h j ≡ word a h j
       two' e = rw e (x.attached.word_2 h)
 
-  first : word u (i + 2) 0 ≡ m + 64 * head a (chain_of a (i + 2))
-  first = x.attached.tail ∙ rw x.written.word_0 (less m (head a (chain_of a (i + 2))) (omega (arith, small)))
+  two : 2 ≤ k
+  two = omega (arith, x.free.after)
+
+  first : word u k 0 ≡ m + 64 * head a (chain_of a k)
+  first = x.attached.tail ∙ rw x.written.word_0 (less m (head a (chain_of a k)) (omega (arith, small)))
     where
       less : (y z : ℕ) → y < 64 → y % 64 + 64 * z ≡ y + 64 * z
       less y z l = omega arith
 
-  pub steps_added : Added (diagram_of s) (diagram_of u) (i + 2) m low high
+  pub steps_added : Added (diagram_of s) (diagram_of u) k m low high
   steps_added = record {
-    free = x.free;
-    two = omega arith;
+    free = x.free.free;
+    two = two;
     is_new = record {
-      height = height_node u (i + 2) (omega arith) (omega (arith, limit_u, x.room)) ∙ ap (λ (y : ℕ). y % 32) first ∙ rest m (head a (chain_of a (i + 2))) small;
-      is_low = low_is u (i + 2) ∙ x.attached.word_1 (i + 2) ∙ x.written.word_1;
-      is_high = high_is u (i + 2) ∙ x.attached.word_2 (i + 2) ∙ x.written.word_2;
+      height = height_node u k two (omega (arith, limit_u, x.free.within)) ∙ ap (λ (y : ℕ). y % 32) first ∙ rest m (head a (chain_of a k)) small;
+      is_low = low_is u k ∙ x.attached.word_1 k ∙ x.written.word_1;
+      is_high = high_is u k ∙ x.attached.word_2 k ∙ x.written.word_2;
     };
     height_old = λ h ne. same_height s u h limit_u (λ l. ap (λ (y : ℕ). y % 32) (word_old h 0 (omega arith) l ne));
     low_old = λ h l ne. same_low s u h (word_old h 1 (omega arith) l ne);
@@ -196,60 +196,60 @@ module _ (s a u : NodeTable) (i m low high : ℕ) (x : Steps s a u i m low high)
       rest : (y z : ℕ) → y ≤ 16 → (y + 64 * z) % 32 ≡ y
       rest y z l = omega arith
 
-  apart : (h : ℕ) → Node s h → h ≡ i + 2 → ⊥
-  apart h p e = let q : (diagram_of s).height h ≡ (diagram_of s).height (i + 2) = ap (diagram_of s).height e in omega (arith, x.free)
+  apart : (h : ℕ) → Node s h → h ≡ k → ⊥
+  apart h p e = let q : (diagram_of s).height h ≡ (diagram_of s).height k = ap (diagram_of s).height e in omega (arith, x.free.free)
 
-  node_new : Node u (i + 2)
+  node_new : Node u k
   node_new = rw steps_added.is_new.height x.fits.positive
 
   node_up : (h : ℕ) → Node s h → Node u h
   node_up h p = rw (steps_added.height_old h (apart h p)) p
 
-  node_cases : (h : ℕ) → Node u h → (Node s h) ⊎ (h ≡ i + 2)
-  node_cases h p = ⊎_elim (λ (e : h ≡ i + 2). inr e) (λ ne. inl (rw (steps_added.height_old h ne) at p)) (cases_eq h (i + 2))
+  node_cases : (h : ℕ) → Node u h → (Node s h) ⊎ (h ≡ k)
+  node_cases h p = ⊎_elim (λ (e : h ≡ k). inr e) (λ ne. inl (rw (steps_added.height_old h ne) at p)) (cases_eq h k)
 
   steps_chains : Chains u (suc (s.limit + s.used)) (Node u)
   steps_chains =
-      attached_chains a u i x.setting_u.limit x.attached (s.limit + s.used) (Node s) (Node u) node_a up_a apart node_cases node_up node_new
-      (written_chains s a i m low high x.setting_a.limit x.free x.written (s.limit + s.used) x.order.chains)
+      attached_chains a u k x.setting_u.limit x.attached (s.limit + s.used) (Node s) (Node u) node_a up_a apart node_cases node_up node_new
+      (written_chains s a k m low high x.setting_a.limit x.free.free x.written (s.limit + s.used) x.order.chains)
     where
-      node_a : Node a (i + 2)
-      node_a = written_node s a i m low high x.setting_a.limit x.free x.written x.room x.fits.positive small
+      node_a : Node a k
+      node_a = written_node s a k m low high x.setting_a.limit x.free.free x.written two x.free.within x.fits.positive small
 
       up_a : (h : ℕ) → Node s h → Node a h
-      up_a h p = rw (same_links s a i m low high x.setting_a.limit x.free x.written h p).height p
+      up_a h p = rw (same_links s a k m low high x.setting_a.limit x.free.free x.written h p).height p
 
   pub steps_order : InOrder u
   steps_order = record {
     some = rw qubits_u x.order.some;
-    reduced = subst (λ (n : ℕ). Reduced n (diagram_of u)) (sym qubits_u) (added_reduced s.qubits.number (diagram_of s) (diagram_of u) (i + 2) m low high x.order.reduced steps_added x.fits);
+    reduced = subst (λ (n : ℕ). Reduced n (diagram_of u)) (sym qubits_u) (added_reduced s.qubits.number (diagram_of s) (diagram_of u) k m low high x.order.reduced steps_added x.fits);
     in_limit = λ h l. height_past u h l;
-    filled = λ h l p. filled' h l p (cases_eq h (i + 2)) (cases_lt h (s.used + 2));
+    filled = λ h l p. filled' h l p (cases_eq h k) (cases_lt h (s.used + 2));
     marked = λ h l p. marked' h l p (node_cases h p);
-    chains = chained_more (suc (s.limit + s.used)) (u.limit + u.used) _ _ _ _ _ (omega (arith, limit_u, x.used, x.after)) steps_chains;
+    chains = chained_more (suc (s.limit + s.used)) (u.limit + u.used) _ _ _ _ _ (omega (arith, limit_u, x.used, x.free.after)) steps_chains;
   }
     where
       qubits_u : u.qubits.number ≡ s.qubits.number
       qubits_u = x.setting_u.qubits ∙ x.setting_a.qubits
 
-      filled' : (h : ℕ) → 2 ≤ h → h < u.used + 2 → (h ≡ i + 2) ⊎ (h ≡ i + 2 → ⊥) → (h < s.used + 2) ⊎ (s.used + 2 ≤ h) → Node u h
+      filled' : (h : ℕ) → 2 ≤ h → h < u.used + 2 → (h ≡ k) ⊎ (h ≡ k → ⊥) → (h < s.used + 2) ⊎ (s.used + 2 ≤ h) → Node u h
       filled' h l p (inl e) q = subst (Node u) (sym e) node_new
       filled' h l p (inr ne) (inl q) = node_up h (x.order.filled h l q)
-      filled' h l p (inr ne) (inr q) = node_up h (x.passed h q (omega (arith, x.used)))
+      filled' h l p (inr ne) (inr q) = node_up h (x.free.passed h q (omega (arith, x.used)))
 
-      marked' : (h : ℕ) → u.used + 2 ≤ h → Node u h → (Node s h) ⊎ (h ≡ i + 2) → mark u h ≡ 1
-      marked' h l p (inl q) = ap (λ (y : ℕ). y / 32 % 2) (word_old h 0 (omega arith) (node_two s h q) (apart h q)) ∙ x.order.marked h (omega (arith, x.used, x.after)) q
+      marked' : (h : ℕ) → u.used + 2 ≤ h → Node u h → (Node s h) ⊎ (h ≡ k) → mark u h ≡ 1
+      marked' h l p (inl q) = ap (λ (y : ℕ). y / 32 % 2) (word_old h 0 (omega arith) (node_two s h q) (apart h q)) ∙ x.order.marked h (omega (arith, x.used, x.free.after)) q
       marked' h l p (inr e) = absurd (past e)
         where
-          past : h ≡ i + 2 → ⊥
-          past q = omega (arith, x.used)
+          past : h ≡ k → ⊥
+          past q = omega (arith, x.used, x.free.after)
 
   pub steps_grown : Grown s u
   steps_grown = record {
     qubits = x.setting_u.qubits ∙ x.setting_a.qubits;
     limit = limit_u;
-    keeps = added_keeps s.qubits.number (diagram_of s) (diagram_of u) (i + 2) m low high x.order.reduced steps_added;
-    onward = omega (arith, x.used, x.after);
+    keeps = added_keeps s.qubits.number (diagram_of s) (diagram_of u) k m low high x.order.reduced steps_added;
+    onward = omega (arith, x.used, x.free.after);
     word_0 = λ h p. word_old h 0 (omega arith) (node_two s h p) (apart h p);
     new = λ h z p. new' h z p (node_cases h p);
   }
@@ -257,15 +257,15 @@ module _ (s a u : NodeTable) (i m low high : ℕ) (x : Steps s a u i m low high)
       rest : (y z : ℕ) → y ≤ 16 → (y + 64 * z) / 32 % 2 ≡ 0
       rest y z l = omega arith
 
-      new' : (h : ℕ) → (diagram_of s).height h ≡ 0 → Node u h → (Node s h) ⊎ (h ≡ i + 2) → (s.used + 2 ≤ h) × (h < u.used + 2) × (mark u h ≡ 0)
+      new' : (h : ℕ) → (diagram_of s).height h ≡ 0 → Node u h → (Node s h) ⊎ (h ≡ k) → (s.used + 2 ≤ h) × (h < u.used + 2) × (mark u h ≡ 0)
       new' h z p (inl q) = absurd (never q)
         where
           never : Node s h → ⊥
           never r = omega arith
-      new' h z p (inr e) = (omega (arith, x.after), omega (arith, x.used), ap (mark u) e ∙ ap (λ (y : ℕ). y / 32 % 2) first ∙ rest m (head a (chain_of a (i + 2))) small)
+      new' h z p (inr e) = (omega (arith, x.free.after), omega (arith, x.used, x.free.after), ap (mark u) e ∙ ap (λ (y : ℕ). y / 32 % 2) first ∙ rest m (head a (chain_of a k)) small)
 
-  pub steps_joined : Joined (diagram_of s) (diagram_of u) m low high (i + 2)
-  steps_joined = added_joined s.qubits.number (diagram_of s) (diagram_of u) (i + 2) m low high x.order.reduced steps_added
+  pub steps_joined : Joined (diagram_of s) (diagram_of u) m low high k
+  steps_joined = added_joined s.qubits.number (diagram_of s) (diagram_of u) k m low high x.order.reduced steps_added
 
 -- where nothing is added
 pub joined_equal : (s : Diagram) (m low high : ℕ) → low ≡ high → Joined s s m low high low
@@ -274,13 +274,9 @@ joined_equal s m low high e = record { kind = inl (e, refl); new = λ k p. inl p
 pub joined_found : (s : Diagram) (m low high h : ℕ) → IsNode s h m low high → Joined s s m low high h
 joined_found s m low high h i = record { kind = inr i; new = λ k p. inl p }
 
-pub no_room : (s : NodeTable) (place m low high : ℕ) → InOrder s → (low ≡ high → ⊥) → ((h : ℕ) → IsNode (diagram_of s) h m low high → ⊥) → AllNodes s s.used place → place ≡ s.limit → NoRoom (diagram_of s) s.limit m low high
-no_room s place m low high o differ absent passed e = record {
+pub no_room : (s : NodeTable) (m low high : ℕ) → InOrder s → (low ≡ high → ⊥) → ((h : ℕ) → IsNode (diagram_of s) h m low high → ⊥) → AllNodes s (s.used + 2) (s.limit + 2) → NoRoom (diagram_of s) s.limit m low high
+no_room s m low high o differ absent passed = record {
   differ = differ;
   absent = absent;
-  filled = λ h l p. go h l p (cases_lt h (s.used + 2));
+  filled = λ h l p. ⊎_elim (λ q. o.filled h l q) (λ q. passed h q p) (cases_lt h (s.used + 2));
 }
-  where
-    go : (h : ℕ) → 2 ≤ h → h < s.limit + 2 → (h < s.used + 2) ⊎ (s.used + 2 ≤ h) → Node s h
-    go h l p (inl q) = o.filled h l q
-    go h l p (inr q) = passed h q (omega arith)

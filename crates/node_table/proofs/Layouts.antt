@@ -1,11 +1,11 @@
 -- What the words of a table say of a handle.
-use Rattle.std.proofs.Common.{◌≡◌, ℕ, ◌+◌, ◌-◌, ◌*◌, ◌/◌, ◌%◌, ◌<◌, ◌≤◌, ◌⊎◌, get_or, vec_items, vec_len, sym, refl, ap, ◌∙◌, inl, inr, ⊎_elim, add-zero, arith}
+use Rattle.std.proofs.Common.{◌≡◌, ℕ, ◌+◌, ◌-◌, ◌*◌, ◌/◌, ◌%◌, ◌<◌, ◌≤◌, ◌⊎◌, get_or, vec_items, vec_len, sym, Some, None, refl, ap, ◌∙◌, inl, inr, ⊎_elim, add-zero, arith}
 use Rattle.std.proofs.lemmas.Nat.{mod_below}
 use Rattle.std.proofs.lemmas.List.{get_or_read_under}
 use Rattle.std.proofs.lemmas.Bool.{cases_lt, lt-ltb, le-ltb}
 use Rattle.node_table.specs.declared.table.NodeTable.{NodeTable}
-use Rattle.node_table.specs.Layout.{word, diagram_of, Node, link, mark}
-use Rattle.node_table.specs.Chains.{chain_for}
+use Rattle.node_table.specs.Layout.{word, diagram_of, Node, link, mark, OnlyWords}
+use Rattle.node_table.specs.Chains.{chain_for, handle_in}
 
 pub height_constant : (t : NodeTable) (h : ℕ) → h < 2 → (diagram_of t).height h ≡ 0
 unfolding diagram_of
@@ -40,6 +40,9 @@ node_within t h p = ⊎_elim (λ (l : h < t.limit + 2). l) (λ l. absurd (past l
     past : t.limit + 2 ≤ h → ⊥
     past l = omega (arith, height_past t h l)
 
+pub node_at : (t : NodeTable) (h : ℕ) → Node t h → (2 ≤ h) × (h < t.limit + 2)
+node_at t h p = (node_two t h p, node_within t h p)
+
 -- heights are equal where word 0 is, up to its multiples of 32
 pub same_height : (s t : NodeTable) (h : ℕ) → t.limit ≡ s.limit → (2 ≤ h → word t h 0 % 32 ≡ word s h 0 % 32) → (diagram_of t).height h ≡ (diagram_of s).height h
 same_height s t h el e = go (cases_lt h 2) (cases_lt h (s.limit + 2))
@@ -71,6 +74,27 @@ pub chain_below : (limit m low high : ℕ) → 0 < limit → chain_for limit m l
 unfolding chain_for
 chain_below limit m low high some = mod_below (low * 12289 + high * 24593 + m * 786433) limit some
 
+-- the handle in a chain's word
+pub handle_none : (p : ℕ) → handle_in p ≡ None → p < 2
+unfolding handle_in
+handle_none p e = ⊎_elim (λ (l : p < 2). l) (λ l. absurd (never l)) (cases_lt p 2)
+  where
+    never : 2 ≤ p → ⊥
+    never l = let q : Some p ≡ None = (let z = le-ltb p 2 l in cc) in let z : ◌≡◌ {A = ℕ} 0 1 = cc in let b : ⊥ = omega arith in b
+
+pub handle_some : (p h : ℕ) → handle_in p ≡ Some h → (p ≡ h) × (2 ≤ h)
+unfolding handle_in
+handle_some p h e = ⊎_elim (λ (l : p < 2). absurd (never l)) (λ l. some l) (cases_lt p 2)
+  where
+    never : p < 2 → ⊥
+    never l = let q : Some h ≡ None = (let z = lt-ltb p 2 l in cc) in let z : ◌≡◌ {A = ℕ} 0 1 = cc in let b : ⊥ = omega arith in b
+
+    some : 2 ≤ p → (p ≡ h) × (2 ≤ h)
+    some l =
+        let z = le-ltb p 2 l in
+        let q : p ≡ h = cc in
+        (q, omega (arith, q))
+
 pub mark_cases : (t : NodeTable) (h : ℕ) → (mark t h ≡ 0) ⊎ (mark t h ≡ 1)
 mark_cases t h = ⊎_elim (λ (l : mark t h < 1). inl (omega arith)) (λ l. inr (omega arith)) (cases_lt (mark t h) 1)
 
@@ -85,5 +109,12 @@ node_place t h k p n = place_within t h k (node_two t h p) (node_within t h p) n
 pub read_word : (t : NodeTable) (i x : ℕ) → x ≡ get_or (vec_items t.words) i x → i < vec_len t.words → x ≡ get_or (vec_items t.words) i 0
 read_word t i x e l = get_or_read_under (vec_items t.words) i (vec_len t.words) x 0 e l t.words.ok.0
 
-pub read_first : (t : NodeTable) (h x : ℕ) → x ≡ get_or (vec_items t.words) (4 * (h - 2)) x → 4 * (h - 2) < vec_len t.words → x ≡ word t h 0
-read_first t h x e l = read_word t (4 * (h - 2)) x e l ∙ rw (add-zero (4 * (h - 2)))
+pub read_first : (t : NodeTable) (h i x : ℕ) → i ≡ 4 * (h - 2) → x ≡ get_or (vec_items t.words) i x → i < vec_len t.words → x ≡ word t h 0
+read_first t h i x j e l = read_word t i x e l ∙ ap (λ (k : ℕ). get_or (vec_items t.words) k 0) (j ∙ sym (add-zero (4 * (h - 2))))
+
+-- words that change, and change again
+pub only_words_self : (t : NodeTable) → OnlyWords t t
+only_words_self t = record { setting = record { qubits = refl; limit = refl }; used = refl }
+
+pub only_words_then : (s t u : NodeTable) → OnlyWords s t → OnlyWords t u → OnlyWords s u
+only_words_then s t u x y = record { setting = record { qubits = y.setting.qubits ∙ x.setting.qubits; limit = y.setting.limit ∙ x.setting.limit }; used = y.used ∙ x.used }

@@ -136,9 +136,6 @@ module _ (s a b t : NodeTable) (h lo hi : ℕ) (x : Marking s a b t h lo hi) whe
     closed = λ k l z f. close k l (ways k l z f);
   }
 
-pub setting_then : (s t u : NodeTable) → SameSetting s t → SameSetting t u → SameSetting s u
-setting_then s t u x y = record { qubits = y.qubits ∙ x.qubits; limit = y.limit ∙ x.limit }
-
 -- under other marks a diagram is reduced, and the halves of a node are held and lower
 pub record Remarked (s t : NodeTable) (h : ℕ) : Type 0 where
   pub reduced : Reduced t.qubits.number (diagram_of t)

@@ -1,5 +1,5 @@
 -- Tables that differ in their chains alone, and chains made anew.
-use Rattle.std.proofs.Common.{◌≡◌, ℕ, suc, ◌+◌, ◌*◌, ◌/◌, ◌%◌, ◌<◌, ◌≤◌, ◌⊎◌, sym, refl, ap, ◌∙◌, subst, inl, inr, ⊎_elim, arith}
+use Rattle.std.proofs.Common.{◌≡◌, ℕ, suc, ◌+◌, ◌-◌, ◌*◌, ◌/◌, ◌%◌, ◌<◌, ◌≤◌, ◌⊎◌, sym, refl, ap, ◌∙◌, subst, inl, inr, ⊎_elim, arith}
 use Rattle.std.proofs.lemmas.Bool.{cases_eq, cases_lt}
 use Rattle.diagrams.specs.Forming.{Alike}
 use Rattle.node_table.specs.declared.table.NodeTable.{NodeTable}
@@ -71,10 +71,10 @@ small_heads t bound In within x b l = ⊎_elim (λ (m : head t b < 2). less m) (
     more : head t b < t.limit + 2 → head t b < 131072
     more m = omega (arith, t.small)
 
-module _ (s t : NodeTable) (i : ℕ) (el : t.limit ≡ s.limit) (a : Attached s t i) where
+module _ (s t : NodeTable) (k : ℕ) (el : t.limit ≡ s.limit) (a : Attached s t k) where
   pub attached_same : SameNodes s t
   attached_same = record {
-    word_0 = λ h l. zero' h l (cases_eq h (i + 2));
+    word_0 = λ h l. zero' h l (cases_eq h k);
     word_1 = a.word_1;
     word_2 = a.word_2;
   }
@@ -82,8 +82,8 @@ module _ (s t : NodeTable) (i : ℕ) (el : t.limit ≡ s.limit) (a : Attached s 
       tail : (x y : ℕ) → (x % 64 + 64 * y) % 64 ≡ x % 64
       tail x y = omega arith
 
-      zero' : (h : ℕ) → 2 ≤ h → (h ≡ i + 2) ⊎ (h ≡ i + 2 → ⊥) → word t h 0 % 64 ≡ word s h 0 % 64
-      zero' h l (inl e) = rw e (ap (λ (x : ℕ). x % 64) a.tail ∙ tail (word s (i + 2) 0) (head s (chain_of s (i + 2))))
+      zero' : (h : ℕ) → 2 ≤ h → (h ≡ k) ⊎ (h ≡ k → ⊥) → word t h 0 % 64 ≡ word s h 0 % 64
+      zero' h l (inl e) = rw e (ap (λ (x : ℕ). x % 64) a.tail ∙ tail (word s k 0) (head s (chain_of s k)))
       zero' h l (inr ne) = ap (λ (x : ℕ). x % 64) (a.others h l ne)
 
   alike : Alike (diagram_of s) (diagram_of t)
@@ -92,27 +92,27 @@ module _ (s t : NodeTable) (i : ℕ) (el : t.limit ≡ s.limit) (a : Attached s 
   chain_t : (h : ℕ) → Node s h → chain_of t h ≡ chain_of s h
   chain_t h p = chain_same s t h el (alike.height h) (alike.low h p) (alike.high h p)
 
-  -- the handles that were in the chains, and the node at place i
-  pub attached_chains : (bound : ℕ) (In In' : ℕ → Type 0) → Node s (i + 2) → ((h : ℕ) → In h → Node s h) → ((h : ℕ) → In h → h ≡ i + 2 → ⊥) → ((h : ℕ) → In' h → (In h) ⊎ (h ≡ i + 2)) → ((h : ℕ) → In h → In' h) → In' (i + 2) → Chains s bound In → Chains t (suc bound) In'
+  -- the handles that were in the chains, and the node k
+  pub attached_chains : (bound : ℕ) (In In' : ℕ → Type 0) → Node s k → ((h : ℕ) → In h → Node s h) → ((h : ℕ) → In h → h ≡ k → ⊥) → ((h : ℕ) → In' h → (In h) ⊎ (h ≡ k)) → ((h : ℕ) → In h → In' h) → In' k → Chains s bound In → Chains t (suc bound) In'
   attached_chains bound In In' used node apart cases old new x =
-      subst (λ (x : ℕ). Chained (suc bound) In' x (link t) (head t) (chain_of t)) (sym el) (chained_attach bound s.limit In In' (link s) (link t) (head s) (head t) (chain_of s) (chain_of t) (i + 2) (chain_of s (i + 2)) x (record {
+      subst (λ (x : ℕ). Chained (suc bound) In' x (link t) (head t) (chain_of t)) (sym el) (chained_attach bound s.limit In In' (link s) (link t) (head s) (head t) (chain_of s) (chain_of t) k (chain_of s k) x (record {
         cases = cases;
         old = old;
         new = new;
         two = λ h p. node_two s h (node h p);
         next_old = λ h p. let l = node_two s h (node h p) in link_node t h l ∙ ap (λ (y : ℕ). y / 64) (a.others h l (apart h p)) ∙ sym (link_node s h l);
         next_end = λ h l. rw (link_constant t h l) (omega arith);
-        next_new = link_node t (i + 2) (omega arith) ∙ ap (λ (y : ℕ). y / 64) a.tail ∙ over (word s (i + 2) 0) (head s (chain_of s (i + 2)));
-        within = chain_in (i + 2);
+        next_new = link_node t k (node_two s k used) ∙ ap (λ (y : ℕ). y / 64) a.tail ∙ over (word s k 0) (head s (chain_of s k));
+        within = chain_in k;
         head_new = a.headed;
         head_old = a.heads;
-        chain_new = chain_t (i + 2) used;
+        chain_new = chain_t k used;
         chain_old = λ h p. chain_t h (node h p);
         chain_in = λ h p. chain_in h;
       }))
     where
       some : 0 < s.limit
-      some = omega (arith, node_within s (i + 2) used)
+      some = omega (arith, node_two s k used, node_within s k used)
 
       chain_in : (h : ℕ) → chain_of s h < s.limit
       chain_in h = chain_below s.limit ((diagram_of s).height h) ((diagram_of s).low h) ((diagram_of s).high h) some
@@ -120,8 +120,8 @@ module _ (s t : NodeTable) (i : ℕ) (el : t.limit ≡ s.limit) (a : Attached s 
       over : (x y : ℕ) → (x % 64 + 64 * y) / 64 ≡ y
       over x y = omega arith
 
--- place after place
-pub enter_none : (t : NodeTable) → ((b : ℕ) → b < t.limit → head t b ≡ 0) → ChainedTo t 0
+-- handle after handle
+pub enter_none : (t : NodeTable) → ((b : ℕ) → b < t.limit → head t b ≡ 0) → ChainedTo t 2
 enter_none t z = record {
   chains = record {
     head_in = λ b l m. absurd (no_head b l m);
@@ -134,11 +134,11 @@ enter_none t z = record {
     no_head : (b : ℕ) → b < t.limit → 2 ≤ head t b → ⊥
     no_head b l m = omega (arith, z b l)
 
-    nothing : (h : ℕ) → Node t h × (h < 0 + 2) → ⊥
-    nothing h i = omega (arith, height_constant t h (omega arith))
+    nothing : (h : ℕ) → Node t h × (h < 2) → ⊥
+    nothing h i = omega (arith, height_constant t h i.1)
 
-pub enter_skip : (t : NodeTable) (i : ℕ) → (diagram_of t).height (i + 2) ≡ 0 → ChainedTo t i → ChainedTo t (i + 1)
-enter_skip t i z x = record {
+pub enter_skip : (t : NodeTable) (k : ℕ) → (diagram_of t).height k ≡ 0 → 2 ≤ k → ChainedTo t k → ChainedTo t (k + 1)
+enter_skip t k z two x = record {
   chains = record {
     head_in = λ b l m. wide (head t b) (x.chains.head_in b l m);
     link_in = λ h j m. wide (link t h) (x.chains.link_in h (thin h j) m);
@@ -147,34 +147,34 @@ enter_skip t i z x = record {
   };
 }
   where
-    wide : (h : ℕ) → Node t h × (h < i + 2) → Node t h × (h < i + 1 + 2)
-    wide h j = (j.0, omega arith)
+    wide : (h : ℕ) → Node t h × (h < k) → Node t h × (h < k + 1)
+    wide h j = (j.0, omega (arith, j.1))
 
-    apart : (h : ℕ) → Node t h → h ≡ i + 2 → ⊥
+    apart : (h : ℕ) → Node t h → h ≡ k → ⊥
     apart h p e = omega (arith, ap (diagram_of t).height e)
 
-    thin : (h : ℕ) → Node t h × (h < i + 1 + 2) → Node t h × (h < i + 2)
-    thin h j = let ne = apart h j.0 in (j.0, omega arith)
+    thin : (h : ℕ) → Node t h × (h < k + 1) → Node t h × (h < k)
+    thin h j = let ne = apart h j.0 in (j.0, omega (arith, j.1))
 
-pub enter_attach : (s t : NodeTable) (i : ℕ) → t.limit ≡ s.limit → Attached s t i → Node s (i + 2) → ChainedTo s i → ChainedTo t (i + 1)
-enter_attach s t i el a used x = record {
-  chains = chained_more (suc i) (i + 1) _ _ _ _ _ (omega arith)
-      (attached_chains s t i el a i (λ h. Node s h × (h < i + 2)) (λ h. Node t h × (h < i + 1 + 2)) used (λ h p. p.0) (λ h p e. omega arith) cases' (λ h p. (to h p.0, omega arith)) (to (i + 2) used, omega arith) x.chains);
+pub enter_attach : (s t : NodeTable) (k : ℕ) → t.limit ≡ s.limit → Attached s t k → Node s k → ChainedTo s k → ChainedTo t (k + 1)
+enter_attach s t k el a node x = record {
+  chains = chained_more (suc (k - 2)) (k + 1 - 2) _ _ _ _ _ (omega (arith, node_two s k node))
+      (attached_chains s t k el a (k - 2) (λ h. Node s h × (h < k)) (λ h. Node t h × (h < k + 1)) node (λ h p. p.0) (λ h p e. omega (arith, p.1)) cases' (λ h p. (to h p.0, omega (arith, p.1))) (to k node, omega arith) x.chains);
 }
   where
     e : Alike (diagram_of s) (diagram_of t)
-    e = same_nodes_alike s t el (attached_same s t i el a)
+    e = same_nodes_alike s t el (attached_same s t k el a)
 
     to : (h : ℕ) → Node s h → Node t h
     to h p = rw (e.height h) p
 
-    cases' : (h : ℕ) → Node t h × (h < i + 1 + 2) → (Node s h × (h < i + 2)) ⊎ (h ≡ i + 2)
-    cases' h p = ⊎_elim (λ (q : h ≡ i + 2). inr q) (λ ne. inl (rw (e.height h) at p.0, omega arith)) (cases_eq h (i + 2))
+    cases' : (h : ℕ) → Node t h × (h < k + 1) → (Node s h × (h < k)) ⊎ (h ≡ k)
+    cases' h p = ⊎_elim (λ (q : h ≡ k). inr q) (λ ne. inl (rw (e.height h) at p.0, omega (arith, p.1))) (cases_eq h k)
 
-pub enter_all : (t : NodeTable) → ChainedTo t t.limit → Chains t t.limit (Node t)
+pub enter_all : (t : NodeTable) → ChainedTo t (t.limit + 2) → Chains t t.limit (Node t)
 enter_all t x = record {
   head_in = λ b l m. (x.chains.head_in b l m).0;
   link_in = λ h p m. (x.chains.link_in h (p, node_within t h p) m).0;
   ends = x.chains.ends;
-  found = λ h p. x.chains.found h (p, node_within t h p);
+  found = λ h p. let f = x.chains.found h (p, node_within t h p) in (f.0, omega (arith, f.1), f.2);
 }

@@ -16,16 +16,23 @@ pub record Fits (n : ℕ) (s : Diagram) (m low high : ℕ) : Type 0 where
   pub differ : low ≡ high → ⊥
   pub absent : NoNode s m low high
 
--- every place from `from` up to `to` has a node
+-- every handle from `from` up to `to` is a node
 abbrev pub AllNodes : NodeTable → ℕ → ℕ → Type 0
-AllNodes t from to = (h : ℕ) → from + 2 ≤ h → h < to + 2 → Node t h
+AllNodes t from to = (h : ℕ) → from ≤ h → h < to → Node t h
 
--- place i was written, with neither mark nor link
-pub record Written (s t : NodeTable) (i m low high : ℕ) : Type 0 where
-  pub word_0 : word t (i + 2) 0 ≡ m
-  pub word_1 : word t (i + 2) 1 ≡ low
-  pub word_2 : word t (i + 2) 2 ≡ high
-  pub others : (h k : ℕ) → k ≤ 2 → 2 ≤ h → (h ≢ i + 2) → word t h k ≡ word s h k
+-- k is the first free handle from the used places on
+pub record FirstFree (t : NodeTable) (k : ℕ) : Type 0 where
+  pub after : t.used + 2 ≤ k
+  pub within : k < t.limit + 2
+  pub passed : AllNodes t (t.used + 2) k
+  pub free : (diagram_of t).height k ≡ 0
+
+-- the handle k was written, with neither mark nor link
+pub record Written (s t : NodeTable) (k m low high : ℕ) : Type 0 where
+  pub word_0 : word t k 0 ≡ m
+  pub word_1 : word t k 1 ≡ low
+  pub word_2 : word t k 2 ≡ high
+  pub others : (h j : ℕ) → j ≤ 2 → 2 ≤ h → (h ≢ k) → word t h j ≡ word s h j
   pub heads : (b : ℕ) → head t b ≡ head s b
 
 -- What a join of two halves at height m answers: a handle, or that there is no room, and then the nodes are as they were.

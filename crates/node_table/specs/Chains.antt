@@ -1,5 +1,5 @@
 -- The chains of a node table: as many as places, and every node stands in the one that its height and halves give.
-use Rattle.std.specs.Prelude.{◌≡◌, ℕ, zero, suc, ◌+◌, ◌*◌, ◌%◌, ◌<◌, ◌≤◌, ◌≢◌}
+use Rattle.std.specs.Prelude.{◌≡◌, ℕ, zero, suc, ◌+◌, ◌-◌, ◌*◌, ◌%◌, ◌<◌, ◌≤◌, ◌≢◌, Some, None, Option, cond, nat_lt}
 use Rattle.node_table.specs.declared.table.NodeTable.{NodeTable}
 use Rattle.node_table.specs.Layout.{diagram_of, word, Node, link, head}
 
@@ -9,6 +9,10 @@ chain_for limit m low high = (low * 12289 + high * 24593 + m * 786433) % limit
 
 abbrev pub chain_of : NodeTable → ℕ → ℕ
 chain_of t h = chain_for t.limit ((diagram_of t).height h) ((diagram_of t).low h) ((diagram_of t).high h)
+
+-- the handle in a chain's word; below 2 the chain has ended
+unfoldable pub handle_in : ℕ → Option ℕ
+handle_in word = cond (nat_lt word 2) None (Some word)
 
 -- k steps along links
 unfoldable pub walk : (ℕ → ℕ) → ℕ → ℕ → ℕ
@@ -26,9 +30,9 @@ pub record Chained (bound : ℕ) (In : ℕ → Type 0) (limit : ℕ) (next heads
 abbrev pub Chains : NodeTable → ℕ → (ℕ → Type 0) → Type 0
 Chains t bound In = Chained bound In t.limit (link t) (head t) (chain_of t)
 
--- the chains have each node before place i
-pub record ChainedTo (t : NodeTable) (i : ℕ) : Type 0 where
-  pub chains : Chains t i (λ h. Node t h × (h < i + 2))
+-- the chains have each node below `top`
+pub record ChainedTo (t : NodeTable) (top : ℕ) : Type 0 where
+  pub chains : Chains t (top - 2) (λ h. Node t h × (h < top))
 
 -- the tables differ in their chains alone
 pub record SameNodes (s t : NodeTable) : Type 0 where
@@ -36,14 +40,14 @@ pub record SameNodes (s t : NodeTable) : Type 0 where
   pub word_1 : (h : ℕ) → word t h 1 ≡ word s h 1
   pub word_2 : (h : ℕ) → word t h 2 ≡ word s h 2
 
--- the node at place i came to the head of its chain
-pub record Attached (s t : NodeTable) (i : ℕ) : Type 0 where
-  pub tail : word t (i + 2) 0 ≡ word s (i + 2) 0 % 64 + 64 * head s (chain_of s (i + 2))
-  pub others : (h : ℕ) → 2 ≤ h → (h ≢ i + 2) → word t h 0 ≡ word s h 0
+-- the node k came to the head of its chain
+pub record Attached (s t : NodeTable) (k : ℕ) : Type 0 where
+  pub tail : word t k 0 ≡ word s k 0 % 64 + 64 * head s (chain_of s k)
+  pub others : (h : ℕ) → 2 ≤ h → (h ≢ k) → word t h 0 ≡ word s h 0
   pub word_1 : (h : ℕ) → word t h 1 ≡ word s h 1
   pub word_2 : (h : ℕ) → word t h 2 ≡ word s h 2
-  pub headed : head t (chain_of s (i + 2)) ≡ i + 2
-  pub heads : (b : ℕ) → (b ≢ chain_of s (i + 2)) → head t b ≡ head s b
+  pub headed : head t (chain_of s k) ≡ k
+  pub heads : (b : ℕ) → (b ≢ chain_of s k) → head t b ≡ head s b
 
 -- heads fit into what word 0 leaves for a link
 abbrev pub SmallHeads : NodeTable → Type 0

@@ -36,3 +36,8 @@ head t b = slice_index (vec_items t.words) (4 * b + 3)
 pub record SameSetting (s t : NodeTable) : Type 0 where
   pub qubits : t.qubits.number ≡ s.qubits.number
   pub limit : t.limit ≡ s.limit
+
+-- the tables differ in words alone
+pub record OnlyWords (s t : NodeTable) : Type 0 where
+  pub setting : SameSetting s t
+  pub used : t.used ≡ s.used

@@ -1,88 +1,83 @@
 //! The chains, by which a node is found.
-ghost use Rattle.std.specs.Prelude.{◌≡◌, ℕ, ◌+◌, ◌<◌, Decides, MatchOption};
+ghost use Rattle.std.specs.Prelude.{◌≡◌, ℕ, ◌+◌, ◌<◌, ◌≤◌, MatchOption};
 ghost use Rattle.diagrams.specs.Forming.{IsNode, NoNode};
-ghost use Rattle.node_table.specs.Layout.{diagram_of, Node, link, head, SameSetting};
-ghost use Rattle.node_table.specs.Chains.{chain_for, Chains, ChainedTo, SameNodes, Attached, SmallHeads};
+ghost use Rattle.node_table.specs.Layout.{diagram_of, Node, link, head, OnlyWords};
+ghost use Rattle.node_table.specs.Chains.{chain_for, handle_in, Chains, ChainedTo, SameNodes, Attached, SmallHeads};
 
-use crate::table::NodeTable;
+use crate::table::{Branch, LINK, NodeTable, first_word};
+
+// The handle in a chain's word; below 2 the chain has ended.
+fn handle_in(word: u32) -> Option<u32>
+    ensures { result ≡ handle_in word }
+{
+    (word >= 2).then_some(word)
+}
 
 impl NodeTable {
     // The next handle of a node's chain.
-    fn link(&self, h: u32) -> u32
+    fn link(&self, h: u32) -> Option<u32>
         requires { Node self.now h }
-        ensures { result ≡ link self.now h }
+        ensures { result ≡ handle_in (link self.now h) }
     {
-        self.words[4 * (h as usize - 2)] / 64
+        handle_in(self.node(h)[0] / LINK)
     }
 
     // The first handle of a chain.
-    fn head(&self, b: usize) -> u32
+    fn head(&self, b: usize) -> Option<u32>
         requires { b < self.now.limit }
-        ensures { result ≡ head self.now b }
+        ensures { result ≡ handle_in (head self.now b) }
     {
-        self.words[4 * b + 3]
+        handle_in(self.words[4 * b + 3])
     }
 
-    // The chain of a node with these three: a hash by three primes.
-    fn chain(&self, height: u32, low: u32, high: u32) -> usize
+    // The chain of a node: a hash by three primes.
+    fn chain(&self, branch: Branch) -> usize
         requires { 0 < self.now.limit }
-        ensures is { result ≡ chain_for self.now.limit height low high }
+        ensures is { result ≡ chain_for self.now.limit branch.height branch.low branch.high }
         ensures within { result < self.now.limit }
     {
+        let Branch { height, low, high } = branch;
         (low as usize * 12289 + high as usize * 24593 + height as usize * 786433)
             % self.limit as usize
     }
 
-    // Whether a node has these three.
-    fn is_node(&self, h: u32, height: u32, low: u32, high: u32) -> bool
-        requires { Node self.now h }
-        ensures { Decides result (IsNode (diagram_of self.now) h height low high) }
-    {
-        self.height(h) == height && self.low(h) == low && self.high(h) == high
-    }
-
-    // The node with these three, if there is one.
-    pub(crate) fn find(&self, height: u32, low: u32, high: u32) -> Option<u32>
-        requires positive { 0 < height }
+    // The node with this height and these halves, if there is one.
+    pub(crate) fn find(&self, branch: Branch) -> Option<u32>
+        requires positive { 0 < branch.height }
         requires chains { Chains self.now (self.now.limit + self.now.used) (Node self.now) }
-        ensures { MatchOption result (NoNode (diagram_of self.now) height low high) (λ h. IsNode (diagram_of self.now) h height low high) }
+        ensures { MatchOption result (NoNode (diagram_of self.now) branch.height branch.low branch.high) (λ h. IsNode (diagram_of self.now) h branch.height branch.low branch.high) }
     {
         if self.limit == 0 {
             return None;
         }
-        let mut h = self.head(self.chain(height, low, high));
-        for step in 0..self.limit + self.used {
-            if h < 2 {
-                return None;
-            }
-            if self.is_node(h, height, low, high) {
+        let mut next = self.head(self.chain(branch));
+        for _step in 0..self.limit + self.used {
+            let h = next?;
+            if self.branch(h) == branch {
                 return Some(h);
             }
-            h = self.link(h);
+            next = self.link(h);
         }
         None
     }
 
-    // Puts the node at place i at the head of its chain.
-    pub(crate) fn attach(&mut self, i: u32)
-        requires room { i < self.old.limit }
-        requires used { Node self.old (i + 2) }
+    // Puts a node at the head of its chain.
+    #[tactic(auto, using(crate::proofs::Layouts::node_at), unfolding(crate::specs::Layout::diagram_of))]
+    pub(crate) fn attach(&mut self, h: u32)
+        requires node { Node self.old h }
         requires heads { SmallHeads self.old }
-        ensures setting { SameSetting self.old self.new }
-        ensures used { self.new.used ≡ self.old.used }
-        ensures attached { Attached self.old self.new i }
+        ensures only { OnlyWords self.old self.new }
+        ensures attached { Attached self.old self.new h }
     {
-        let b = self.chain(self.height(i + 2), self.low(i + 2), self.high(i + 2));
-        let next = self.head(b);
-        let at = 4 * i as usize;
-        self.words[at] = self.words[at] % 64 + 64 * next;
-        self.words[4 * b + 3] = i + 2;
+        let b = self.chain(self.branch(h));
+        let at = first_word(h);
+        self.words[at] = self.words[at] % LINK + LINK * self.words[4 * b + 3];
+        self.words[4 * b + 3] = h;
     }
 
     // Empties the chains.
     fn drop_heads(&mut self)
-        ensures setting { SameSetting self.old self.new }
-        ensures used { self.new.used ≡ self.old.used }
+        ensures only { OnlyWords self.old self.new }
         ensures same { SameNodes self.old self.new }
         ensures none { (b : ℕ) → b < self.old.limit → head self.new b ≡ 0 }
     {
@@ -91,30 +86,27 @@ impl NodeTable {
         }
     }
 
-    // Puts the node at place i, if there is one, into its chain, where those before it are.
-    fn enter(&mut self, i: u32)
-        requires room { i < self.old.limit }
-        requires chains { ChainedTo self.old i }
-        ensures setting { SameSetting self.old self.new }
-        ensures used { self.new.used ≡ self.old.used }
+    // Puts the handle, if it is a node, into its chain, where those before it are.
+    fn enter(&mut self, h: u32)
+        requires { (2 ≤ h) × ChainedTo self.old h }
+        ensures only { OnlyWords self.old self.new }
         ensures same { SameNodes self.old self.new }
-        ensures chains { ChainedTo self.new (i + 1) }
+        ensures chains { ChainedTo self.new (h + 1) }
     {
-        if self.height(i + 2) != 0 {
-            self.attach(i);
+        if self.height(h) != 0 {
+            self.attach(h);
         }
     }
 
     // Makes the chains anew.
     pub(crate) fn rebuild(&mut self)
-        ensures setting { SameSetting self.old self.new }
-        ensures used { self.new.used ≡ self.old.used }
+        ensures only { OnlyWords self.old self.new }
         ensures same { SameNodes self.old self.new }
         ensures chains { Chains self.new self.new.limit (Node self.new) }
     {
         self.drop_heads();
-        for i in 0..self.limit {
-            self.enter(i);
+        for h in 2..self.limit + 2 {
+            self.enter(h);
         }
     }
 }

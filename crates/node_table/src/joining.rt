@@ -1,12 +1,12 @@
 //! Finding or making the node of two halves.
-ghost use Rattle.std.specs.Prelude.{◌≡◌, ◌+◌, ◌<◌, ◌≤◌};
+ghost use Rattle.std.specs.Prelude.{◌≡◌, ◌+◌, ◌<◌, ◌≤◌, MatchOption};
 ghost use Rattle.diagrams.specs.Diagrams.{Held};
 ghost use Rattle.diagrams.specs.Forming.{Joined};
-ghost use Rattle.node_table.specs.Layout.{diagram_of, SameSetting};
+ghost use Rattle.node_table.specs.Layout.{diagram_of, OnlyWords};
 ghost use Rattle.node_table.specs.Ordering.{InOrder, Grown};
-ghost use Rattle.node_table.specs.Adding.{AllNodes, Written, Fits, JoinAnswer};
+ghost use Rattle.node_table.specs.Adding.{AllNodes, FirstFree, Written, Fits, JoinAnswer};
 
-use crate::table::NodeTable;
+use crate::table::{Branch, NodeTable, first_word};
 
 impl NodeTable {
     /// The handle that stands for two halves at a height: the half itself if they are one, else the node that has them, which
@@ -23,57 +23,45 @@ impl NodeTable {
         if low == high {
             return Some(low);
         }
-        if let Some(h) = self.find(height, low, high) {
+        let branch = Branch { height, low, high };
+        if let Some(h) = self.find(branch) {
             return Some(h);
         }
-        let place = self.free_place();
-        if place == self.limit {
-            return None;
-        }
-        Some(self.add(place, height, low, high))
+        let h = self.first_free()?;
+        self.add(h, branch);
+        Some(h)
     }
 
-    // The first free place, or the limit.
-    fn free_place(&self) -> u32
-        ensures within { (self.now.used ≤ result) × (result ≤ self.now.limit) }
-        ensures passed { AllNodes self.now self.now.used result }
-        ensures free { result < self.now.limit → (diagram_of self.now).height (result + 2) ≡ 0 }
+    // The first free handle from the used places on.
+    fn first_free(&self) -> Option<u32>
+        ensures { MatchOption result (AllNodes self.now (self.now.used + 2) (self.now.limit + 2)) (λ h. FirstFree self.now h) }
     {
-        for place in self.used..self.limit {
-            if self.height(place + 2) == 0 {
-                return place;
-            }
-        }
-        self.limit
+        (self.used + 2..self.limit + 2).find(|h| self.height(*h) == 0)
     }
 
-    // Makes a node at the first free place, and puts it into its chain.
-    fn add(&mut self, place: u32, height: u32, low: u32, high: u32) -> u32
+    // Makes a node of a free handle, and puts it into its chain.
+    fn add(&mut self, h: u32, branch: Branch)
         requires order { InOrder self.old }
-        requires room { (self.old.used ≤ place) × (place < self.old.limit) }
-        requires passed { AllNodes self.old self.old.used place }
-        requires free { (diagram_of self.old).height (place + 2) ≡ 0 }
-        requires fits { Fits self.old.qubits.number (diagram_of self.old) height low high }
+        requires free { FirstFree self.old h }
+        requires fits { Fits self.old.qubits.number (diagram_of self.old) branch.height branch.low branch.high }
         ensures order { InOrder self.new }
         ensures grown { Grown self.old self.new }
-        ensures joined { Joined (diagram_of self.old) (diagram_of self.new) height low high result }
+        ensures joined { Joined (diagram_of self.old) (diagram_of self.new) branch.height branch.low branch.high h }
     {
-        self.used = place + 1;
-        self.write(place, height, low, high);
-        self.attach(place);
-        place + 2
+        self.used = h - 1;
+        self.write(h, branch);
+        self.attach(h);
     }
 
     // Writes a node, in no chain yet.
-    fn write(&mut self, i: u32, height: u32, low: u32, high: u32)
-        requires { i < self.old.limit }
-        ensures setting { SameSetting self.old self.new }
-        ensures used { self.new.used ≡ self.old.used }
-        ensures written { Written self.old self.new i height low high }
+    fn write(&mut self, h: u32, branch: Branch)
+        requires { (2 ≤ h) × (h < self.old.limit + 2) }
+        ensures only { OnlyWords self.old self.new }
+        ensures written { Written self.old self.new h branch.height branch.low branch.high }
     {
-        let at = 4 * i as usize;
-        self.words[at] = height;
-        self.words[at + 1] = low;
-        self.words[at + 2] = high;
+        let at = first_word(h);
+        self.words[at] = branch.height;
+        self.words[at + 1] = branch.low;
+        self.words[at + 2] = branch.high;
     }
 }

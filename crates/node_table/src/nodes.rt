@@ -1,10 +1,11 @@
 //! Making a table, and reading its nodes.
 ghost use Rattle.std.specs.Prelude.{◌≡◌, ℕ, ◌+◌, ◌*◌, ◌/◌, ◌<◌, ◌≤◌, min, length, vec_len, Decides, slice_index};
 ghost use Rattle.diagrams.specs.Diagrams.{Held};
-ghost use Rattle.node_table.specs.Layout.{diagram_of, SameSetting};
+ghost use Rattle.diagrams.specs.Forming.{IsNode};
+ghost use Rattle.node_table.specs.Layout.{diagram_of, word, Node};
 ghost use Rattle.node_table.specs.Ordering.{InOrder};
 
-use crate::table::NodeTable;
+use crate::table::{Branch, MARK, NodeTable, first_word};
 use exact::QubitCount;
 
 impl NodeTable {
@@ -64,32 +65,56 @@ impl NodeTable {
     }
 
     /// The height of a handle: 0 at a constant, and where no node is.
+    #[tactic(auto, unfolding(crate::specs::Layout::diagram_of))]
     pub fn height(&self, h: u32) -> u32
         ensures { result ≡ (diagram_of self.now).height h }
     {
-        if h < 2 {
+        if h < 2 || h - 2 >= self.limit {
             return 0;
         }
-        if h - 2 >= self.limit {
-            return 0;
-        }
-        self.words[4 * (h as usize - 2)] % 32
+        self.node(h)[0] % MARK
     }
 
     /// The half of a node where its qubit is 0.
+    #[tactic(auto, using(crate::proofs::Layouts::node_at), unfolding(crate::specs::Layout::diagram_of))]
     pub fn low(&self, h: u32) -> u32
         requires { 0 < (diagram_of self.now).height h }
         ensures { result ≡ (diagram_of self.now).low h }
     {
-        self.words[4 * (h as usize - 2) + 1]
+        self.node(h)[1]
     }
 
     /// The half of a node where its qubit is 1.
+    #[tactic(auto, using(crate::proofs::Layouts::node_at), unfolding(crate::specs::Layout::diagram_of))]
     pub fn high(&self, h: u32) -> u32
         requires { 0 < (diagram_of self.now).height h }
         ensures { result ≡ (diagram_of self.now).high h }
     {
-        self.words[4 * (h as usize - 2) + 2]
+        self.node(h)[2]
+    }
+
+    // What makes a node.
+    #[tactic(auto, using(crate::proofs::Layouts::node_at), unfolding(crate::specs::Layout::diagram_of))]
+    pub(crate) fn branch(&self, h: u32) -> Branch
+        requires { Node self.now h }
+        ensures { IsNode (diagram_of self.now) h result.height result.low result.high }
+    {
+        let node = self.node(h);
+        Branch {
+            height: node[0] % MARK,
+            low: node[1],
+            high: node[2],
+        }
+    }
+
+    // The four words of a handle's place.
+    pub(crate) fn node(&self, h: u32) -> &[u32]
+        requires { (2 ≤ h) × (h < self.now.limit + 2) }
+        ensures size { length result.now ≡ 4 }
+        ensures words { (k : ℕ) → k < 4 → slice_index result.now k ≡ word self.now h k }
+    {
+        let at = first_word(h);
+        &self.words[at..at + 4]
     }
 
     /// Whether a handle is held: a constant, or a node.

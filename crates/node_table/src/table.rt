@@ -1,5 +1,5 @@
 //! A table of nodes in given words.
-ghost use Rattle.std.specs.Prelude.{◌*◌, ◌≤◌, vec_len};
+ghost use Rattle.std.specs.Prelude.{◌≡◌, ◌*◌, ◌-◌, ◌≤◌, vec_len};
 
 use exact::QubitCount;
 
@@ -21,4 +21,25 @@ pub struct NodeTable {
     ghost placed: { used ≤ limit },
     ghost small: { limit ≤ 65536 },
     ghost sized: { 4 * limit ≤ vec_len words },
+}
+
+/// What makes a node: its height, and the handles of its halves.
+#[derive(Clone, Copy, PartialEq)]
+pub(crate) struct Branch {
+    pub(crate) height: u32,
+    pub(crate) low: u32,
+    pub(crate) high: u32,
+}
+
+// What word 0 has for a mark, and for one step of its link.
+pub(crate) const MARK: u32 = 32;
+
+pub(crate) const LINK: u32 = 64;
+
+// Where the words of a handle of 2 and more begin.
+pub(crate) fn first_word(h: u32) -> usize
+    requires { 2 ≤ h }
+    ensures { result ≡ 4 * (h - 2) }
+{
+    4 * (h as usize - 2)
 }

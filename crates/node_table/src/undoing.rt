@@ -1,6 +1,6 @@
 //! Taking back what was made.
 ghost use Rattle.std.specs.Prelude.{◌≡◌, ◌≤◌};
-ghost use Rattle.node_table.specs.Layout.{SameSetting};
+ghost use Rattle.node_table.specs.Layout.{SameSetting, OnlyWords};
 ghost use Rattle.node_table.specs.Ordering.{InOrder, Grown};
 ghost use Rattle.node_table.specs.Freeing.{Freed, Restored};
 
@@ -21,8 +21,7 @@ impl NodeTable {
     // Frees the places of a range that are not marked.
     pub(crate) fn free_unmarked(&mut self, from: u32, to: u32)
         requires { (from ≤ to) × (to ≤ self.old.limit) }
-        ensures setting { SameSetting self.old self.new }
-        ensures used { self.new.used ≡ self.old.used }
+        ensures only { OnlyWords self.old self.new }
         ensures freed { Freed self.old self.new from to }
     {
         for i in from..to {

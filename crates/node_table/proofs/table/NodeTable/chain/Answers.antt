@@ -5,4 +5,4 @@ use Rattle.node_table.proofs.table.NodeTable.chain.Goals as goal
 
 pub returns : goal.returns
 unfolding chain_for
-returns c = record { is = refl; within = chain_below _ c.args.height c.args.low c.args.high c.requires }
+returns c = record { is = refl; within = chain_below _ c.args.branch.height c.args.branch.low c.args.branch.high c.requires }

@@ -1,14 +1,10 @@
 use Rattle.std.proofs.Common.{ℕ, ◌/◌, sym, ap, ◌∙◌, arith}
-use Rattle.node_table.proofs.Layouts.{node_two, node_place, link_node, read_first}
+use Rattle.node_table.specs.Chains.{handle_in}
+use Rattle.node_table.proofs.Layouts.{node_at, node_two, link_node}
 use Rattle.node_table.proofs.table.NodeTable.link.Goals as goal
 
-pub overflow_sub-h : goal.overflow_sub-h
-overflow_sub-h c = node_two _ _ c.requires
-
-pub index-requires : goal.index-requires
-index-requires c = omega (arith, node_place c.args.self.now c.args.h 0 c.requires (omega arith))
+pub node-requires : goal.node-requires
+node-requires c = node_at _ _ c.requires
 
 pub returns : goal.returns
-returns c =
-    let t = c.args.self.now in
-    ap (λ (x : ℕ). x / 64) (read_first t c.args.h _ c.index.ensures (omega (arith, node_place t c.args.h 0 c.requires (omega arith)))) ∙ sym (link_node t c.args.h (node_two t _ c.requires))
+returns c = c.handle_in.ensures ∙ ap (λ (x : ℕ). handle_in (x / 64)) (c.node.ensures.words 0 (omega arith)) ∙ ap handle_in (sym (link_node c.args.self.now c.args.h (node_two _ _ c.requires)))
