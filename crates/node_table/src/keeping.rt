@@ -43,11 +43,10 @@ impl NodeTable {
         ensures same { SameButMarks self.old self.new }
         ensures none { (h : ℕ) → 2 ≤ h → h < self.old.limit + 2 → mark self.new h ≡ 0 }
     {
-        for i in 0..self.limit {
-            let at = 4 * i as usize;
-            let w = self.words[at];
-            if w / 32 % 2 == 1 {
-                self.words[at] = w - 32;
+        // Not by the library's chunks of four: it says nothing of what they hold after a write.
+        for h in 2..self.limit + 2 {
+            if self.marked(h) {
+                self.words[first_word(h)] -= MARK;
             }
         }
     }
@@ -68,9 +67,9 @@ impl NodeTable {
         self.mark(high);
     }
 
-    // Whether a node is marked.
-    fn marked(&self, h: u32) -> bool
-        requires { Node self.now h }
+    // Whether a place is marked.
+    pub(crate) fn marked(&self, h: u32) -> bool
+        requires { (2 ≤ h) × (h < self.now.limit + 2) }
         ensures { result ≡ (mark self.now h == 1) }
     {
         self.node(h)[0] / MARK % 2 == 1

@@ -4,7 +4,7 @@ ghost use Rattle.node_table.specs.Layout.{SameSetting, OnlyWords};
 ghost use Rattle.node_table.specs.Ordering.{InOrder, Grown};
 ghost use Rattle.node_table.specs.Freeing.{Freed, Restored};
 
-use crate::table::NodeTable;
+use crate::table::{NodeTable, first_word};
 
 impl NodeTable {
     /// Takes back every node made since the table had this number `used`.
@@ -24,10 +24,9 @@ impl NodeTable {
         ensures only { OnlyWords self.old self.new }
         ensures freed { Freed self.old self.new from to }
     {
-        for i in from..to {
-            let at = 4 * i as usize;
-            if self.words[at] / 32 % 2 == 0 {
-                self.words[at] = 0;
+        for h in from + 2..to + 2 {
+            if !self.marked(h) {
+                self.words[first_word(h)] = 0;
             }
         }
     }
