@@ -273,10 +273,3 @@ joined_equal s m low high e = record { kind = inl (e, refl); new = λ k p. inl p
 
 pub joined_found : (s : Diagram) (m low high h : ℕ) → IsNode s h m low high → Joined s s m low high h
 joined_found s m low high h i = record { kind = inr i; new = λ k p. inl p }
-
-pub no_room : (s : NodeTable) (m low high : ℕ) → InOrder s → (low ≡ high → ⊥) → ((h : ℕ) → IsNode (diagram_of s) h m low high → ⊥) → AllNodes s (s.used + 2) (s.limit + 2) → NoRoom (diagram_of s) s.limit m low high
-no_room s m low high o differ absent passed = record {
-  differ = differ;
-  absent = absent;
-  filled = λ h l p. ⊎_elim (λ q. o.filled h l q) (λ q. passed h q p) (cases_lt h (s.used + 2));
-}

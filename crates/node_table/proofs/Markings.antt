@@ -39,9 +39,6 @@ high_back s t e h = same_high s t h (e.word_2 h)
 pub held_alike : (s t : NodeTable) → t.limit ≡ s.limit → SameButMarks s t → (h : ℕ) → Held (diagram_of s) h → Held (diagram_of t) h
 held_alike s t el e = held_kept (diagram_of s) (diagram_of t) (alike_keeps (diagram_of s) (diagram_of t) (marks_alike s t el e))
 
-pub held_back : (s t : NodeTable) → t.limit ≡ s.limit → SameButMarks s t → (h : ℕ) → Held (diagram_of t) h → Held (diagram_of s) h
-held_back s t el e = held_kept (diagram_of t) (diagram_of s) (alike_keeps (diagram_of t) (diagram_of s) (alike_back (diagram_of s) (diagram_of t) (marks_alike s t el e)))
-
 pub marks_reduced : (s t : NodeTable) → SameSetting s t → SameButMarks s t → Reduced s.qubits.number (diagram_of s) → Reduced t.qubits.number (diagram_of t)
 marks_reduced s t z e o = subst (λ (n : ℕ). Reduced n (diagram_of t)) (sym z.qubits) (alike_reduced s.qubits.number (diagram_of s) (diagram_of t) (marks_alike s t z.limit e) o)
 
@@ -50,25 +47,6 @@ pub reaches_alike : (s t : Diagram) → Alike s t → (h k : ℕ) → Reaches t 
 reaches_alike s t a h k itself = itself
 reaches_alike s t a h k (by_low p r) = let q : 0 < s.height h = rw (a.height h) at p in by_low q (subst (λ (j : ℕ). Reaches s j k) (a.low h q) (reaches_alike s t a (t.low h) k r))
 reaches_alike s t a h k (by_high p r) = let q : 0 < s.height h = rw (a.height h) at p in by_high q (subst (λ (j : ℕ). Reaches s j k) (a.high h q) (reaches_alike s t a (t.high h) k r))
-
-pub not_marked : (t : NodeTable) (h : ℕ) (b : Bool) → b ≡ eqb (mark t h) 1 → b ≡ false → mark t h ≡ 0
-not_marked t h b e f = let ne = eqb-false (mark t h) 1 (sym e ∙ f) in omega arith
-
-pub is_marked : (t : NodeTable) (h : ℕ) (b : Bool) → b ≡ eqb (mark t h) 1 → b ≡ true → mark t h ≡ 1
-is_marked t h b e f = eqb-true (mark t h) 1 (sym e ∙ f)
-
--- nothing is marked anew
-pub marks_nothing : (t : NodeTable) (h : ℕ) → Marked t h → Marks t t h
-marks_nothing t h m = record {
-  same = same_marks_self t;
-  root = m;
-  stays = λ k l f. f;
-  reached = λ k l z f. absurd (never k z f);
-  closed = λ k l z f. absurd (never k z f);
-}
-  where
-    never : (k : ℕ) → mark t k ≡ 0 → mark t k ≡ 1 → ⊥
-    never k z f = omega arith
 
 -- From s to a the node h is marked, from a to b what its low half reaches, and from b to t what its high half reaches.
 pub record Marking (s a b t : NodeTable) (h lo hi : ℕ) : Type 0 where

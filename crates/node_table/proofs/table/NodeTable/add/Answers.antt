@@ -3,9 +3,6 @@ use Rattle.node_table.specs.Adding.{Written}
 use Rattle.node_table.proofs.Additions.{Steps, written_node, written_heads, steps_order, steps_grown, steps_joined}
 use Rattle.node_table.proofs.table.NodeTable.add.Goals as goal
 
-pub write-requires : goal.write-requires
-write-requires c = (omega (arith, c.requires.free.after), c.requires.free.within)
-
 pub attach-requires : goal.attach-requires
 attach-requires c =
     let s = c.args.self.now in
