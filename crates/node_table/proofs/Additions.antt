@@ -2,13 +2,13 @@
 use Rattle.std.proofs.Common.{◌≡◌, ℕ, suc, ◌+◌, ◌-◌, ◌*◌, ◌/◌, ◌%◌, ◌<◌, ◌≤◌, ◌⊎◌, sym, refl, ap, ◌∙◌, subst, inl, inr, ⊎_elim, arith}
 use Rattle.std.proofs.lemmas.Bool.{cases_eq, cases_lt}
 use Rattle.diagrams.specs.Diagrams.{Diagram, Held, Reduced}
-use Rattle.diagrams.specs.Forming.{Keeps, IsNode, NoRoom, Joined}
+use Rattle.diagrams.specs.Forming.{Keeps, IsNode, Joined}
 use Rattle.diagrams.proofs.Canonical.{node_handle}
 use Rattle.node_table.specs.declared.table.NodeTable.{NodeTable}
 use Rattle.node_table.specs.Layout.{diagram_of, word, Node, head, mark, SameSetting}
 use Rattle.node_table.specs.Chains.{chain_of, Chains, Attached, SmallHeads}
 use Rattle.node_table.specs.Ordering.{InOrder, Grown}
-use Rattle.node_table.specs.Adding.{AllNodes, FirstFree, Fits, Written}
+use Rattle.node_table.specs.Adding.{FirstFree, Fits, Written}
 use Rattle.node_table.proofs.Layouts.{height_past, height_node, node_two, node_within, same_height, same_low, same_high, low_is, high_is}
 use Rattle.node_table.proofs.Walks.{chained_more}
 use Rattle.node_table.proofs.Rebuilding.{SameLinks, chains_agree, attached_chains, small_heads}

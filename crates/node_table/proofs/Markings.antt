@@ -1,6 +1,6 @@
 -- Marks go over what is reached.
-use Rattle.std.proofs.Common.{◌≡◌, ℕ, ◌<◌, ◌≤◌, Bool, true, false, eqb, ◌⊎◌, sym, refl, ap, ◌∙◌, subst, inl, inr, ⊎_elim, arith}
-use Rattle.std.proofs.lemmas.Bool.{cases_eq, eqb-true, eqb-false}
+use Rattle.std.proofs.Common.{◌≡◌, ℕ, ◌<◌, ◌≤◌, ◌⊎◌, sym, refl, ap, ◌∙◌, subst, inl, inr, ⊎_elim}
+use Rattle.std.proofs.lemmas.Bool.{cases_eq}
 use Rattle.diagrams.specs.Diagrams.{Diagram, Held, Reduced}
 use Rattle.diagrams.specs.Forming.{Alike}
 use Rattle.diagrams.specs.Reaching.{Reaches, itself, by_low, by_high}
@@ -38,6 +38,9 @@ high_back s t e h = same_high s t h (e.word_2 h)
 -- held among the same nodes
 pub held_alike : (s t : NodeTable) → t.limit ≡ s.limit → SameButMarks s t → (h : ℕ) → Held (diagram_of s) h → Held (diagram_of t) h
 held_alike s t el e = held_kept (diagram_of s) (diagram_of t) (alike_keeps (diagram_of s) (diagram_of t) (marks_alike s t el e))
+
+pub held_back : (s t : NodeTable) → t.limit ≡ s.limit → SameButMarks s t → (h : ℕ) → Held (diagram_of t) h → Held (diagram_of s) h
+held_back s t el e = held_kept (diagram_of t) (diagram_of s) (alike_keeps (diagram_of t) (diagram_of s) (alike_back (diagram_of s) (diagram_of t) (marks_alike s t el e)))
 
 pub marks_reduced : (s t : NodeTable) → SameSetting s t → SameButMarks s t → Reduced s.qubits.number (diagram_of s) → Reduced t.qubits.number (diagram_of t)
 marks_reduced s t z e o = subst (λ (n : ℕ). Reduced n (diagram_of t)) (sym z.qubits) (alike_reduced s.qubits.number (diagram_of s) (diagram_of t) (marks_alike s t z.limit e) o)

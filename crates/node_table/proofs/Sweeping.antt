@@ -2,7 +2,7 @@
 use Rattle.std.proofs.Common.{◌≡◌, ℕ, ◌+◌, ◌/◌, ◌%◌, ◌<◌, ◌≤◌, ◌⊎◌, List, length, get_or, sym, refl, ap, ◌∙◌, subst, inl, inr, ⊎_elim, arith}
 use Rattle.std.proofs.lemmas.Bool.{cases_eq, cases_lt}
 use Rattle.functions.specs.declared.faults.StoreFault.TheVariants.{NotHeld}
-use Rattle.diagrams.specs.Diagrams.{Diagram, Reduced}
+use Rattle.diagrams.specs.Diagrams.{Held, Reduced}
 use Rattle.diagrams.specs.Forming.{Alike}
 use Rattle.diagrams.specs.Reaching.{Reaches, Swept}
 use Rattle.diagrams.proofs.Reaching.{swept_reduced}
@@ -11,17 +11,18 @@ use Rattle.node_table.specs.Layout.{diagram_of, word, Node, mark, SameSetting}
 use Rattle.node_table.specs.Chains.{Chains, SameNodes}
 use Rattle.node_table.specs.Ordering.{InOrder}
 use Rattle.node_table.specs.Freeing.{Freed}
-use Rattle.node_table.specs.Marking.{SameButMarks, Marked, Marks, MarksListed, AllHeld, FirstMissing, NotKept}
+use Rattle.node_table.specs.Marking.{SameButMarks, Marked, Marks, MarksListed, NotKept}
 use Rattle.node_table.proofs.Layouts.{height_constant, height_past, height_zero, node_two, node_within, same_height, same_low, same_high, mark_cases}
 use Rattle.node_table.proofs.Walks.{chained_more}
-use Rattle.node_table.proofs.Rebuilding.{same_nodes_alike, same_nodes_mark}
-use Rattle.node_table.proofs.Markings.{marks_alike, same_marks_self, same_marks_then, low_back, high_back, reaches_alike}
+use Rattle.node_table.proofs.Rebuilding.{chains_agree, same_nodes_alike, same_nodes_mark}
+use Rattle.node_table.proofs.Markings.{marks_alike, held_alike, held_back, marks_reduced, same_marks_self, same_marks_then, low_back, high_back, reaches_alike}
 use Rattle.node_table.proofs.Choosing.{Chosen, chosen_node, chosen_keeps, chosen_reach}
 
 -- listed handle after listed handle
 pub listed_none : (t : NodeTable) (list : List ℕ) → ((h : ℕ) → 2 ≤ h → h < t.limit + 2 → mark t h ≡ 0) → MarksListed t t list 0
 listed_none t list z = record {
   same = same_marks_self t;
+  held = λ j l. absurd (below j l);
   roots = λ j l. absurd (below j l);
   reached = λ k p f. absurd (never k p f);
   closed = λ k p f. absurd (never k p f);
@@ -33,9 +34,13 @@ listed_none t list z = record {
     never : (k : ℕ) → Node t k → mark t k ≡ 1 → ⊥
     never k p f = omega (arith, z k (node_two t k p) (node_within t k p))
 
-module _ (s b t : NodeTable) (list : List ℕ) (i : ℕ) (el : b.limit ≡ s.limit) (x : MarksListed s b list i) (y : Marks b t (get_or list i 0)) where
+module _ (s b t : NodeTable) (list : List ℕ) (i : ℕ) (el : b.limit ≡ s.limit) (x : MarksListed s b list i) (hb : Held (diagram_of b) (get_or list i 0)) (y : Marks b t (get_or list i 0)) where
   on : (k : ℕ) → Marked b k → Marked t k
   on k m l = y.stays k l (m l)
+
+  held_all : (j : ℕ) → j < i + 1 → (j ≡ i) ⊎ (j ≡ i → ⊥) → Held (diagram_of s) (get_or list j 0)
+  held_all j l (inl e) = subst (λ (z : ℕ). Held (diagram_of s) (get_or list z 0)) (sym e) (held_back s b el x.same (get_or list i 0) hb)
+  held_all j l (inr ne) = x.held j (omega arith)
 
   root_all : (j : ℕ) → j < i + 1 → (j ≡ i) ⊎ (j ≡ i → ⊥) → Marked t (get_or list j 0)
   root_all j l (inl e) = subst (λ (z : ℕ). Marked t (get_or list z 0)) (sym e) y.root
@@ -54,27 +59,77 @@ module _ (s b t : NodeTable) (list : List ℕ) (i : ℕ) (el : b.limit ≡ s.lim
   pub listed_more : MarksListed s t list (i + 1)
   listed_more = record {
     same = same_marks_then s b t x.same y.same;
+    held = λ j l. held_all j l (cases_eq j i);
     roots = λ j l. root_all j l (cases_eq j i);
     reached = λ k p f. reach_all k p f (mark_cases b k);
     closed = λ k p f. close_all k p f (mark_cases b k);
   }
 
--- Refused: nothing changes.
-pub refused_kept : (s : Diagram) (list : List ℕ) (h : ℕ) → FirstMissing s list h → NotKept s s list (NotHeld h)
-refused_kept s list h m = record {
-  place = m.place;
-  within = m.within;
-  before = m.before;
-  missing = m.missing;
-  named = ap NotHeld m.named;
-  alike = record { height = λ k. refl; low = λ k p. refl; high = λ k p. refl };
-}
+-- Refused: from s to a no mark is left, from a to b some are set, from b to t all.
+pub record Refusing (s a b t : NodeTable) (list : List ℕ) (i : ℕ) : Type 0 where
+  pub order : InOrder s
+  pub setting_a : SameSetting s a
+  pub used_a : a.used ≡ s.used
+  pub same_a : SameButMarks s a
+  pub setting_b : SameSetting a b
+  pub used_b : b.used ≡ a.used
+  pub marks : MarksListed a b list i
+  pub setting_t : SameSetting b t
+  pub used_t : t.used ≡ b.used
+  pub same_t : SameButMarks b t
+  pub all : (h : ℕ) → 2 ≤ h → h < b.limit + 2 → mark t h ≡ 1
+  pub within : i < length list
+  pub missing : Held (diagram_of b) (get_or list i 0) → ⊥
+
+module _ (s a b t : NodeTable) (list : List ℕ) (i : ℕ) (x : Refusing s a b t list i) where
+  limit_b : b.limit ≡ s.limit
+  limit_b = x.setting_b.limit ∙ x.setting_a.limit
+
+  limit_t : t.limit ≡ s.limit
+  limit_t = x.setting_t.limit ∙ limit_b
+
+  same_b : SameButMarks s b
+  same_b = same_marks_then s a b x.same_a x.marks.same
+
+  same : SameButMarks s t
+  same = same_marks_then s b t same_b x.same_t
+
+  alike : Alike (diagram_of s) (diagram_of t)
+  alike = marks_alike s t limit_t same
+
+  pub refused_setting : SameSetting s t
+  refused_setting = record { qubits = x.setting_t.qubits ∙ x.setting_b.qubits ∙ x.setting_a.qubits; limit = limit_t }
+
+  pub refused_order : InOrder t
+  refused_order = record {
+    some = rw refused_setting.qubits x.order.some;
+    reduced = marks_reduced s t refused_setting same x.order.reduced;
+    in_limit = λ h l. height_past t h l;
+    filled = λ h l m. rw (alike.height h) (x.order.filled h l (omega (arith, used)));
+    marked = λ h l p. x.all h (node_two t h p) (omega (arith, node_within t h p, x.setting_t.limit));
+    chains = chained_more (s.limit + s.used) (t.limit + t.used) _ _ _ _ _ (omega (arith, limit_t, used))
+        (chains_agree s t (s.limit + s.used) (Node s) (Node t) limit_t (λ h p. p) (λ h p. rw (alike.height h) p) (λ h p. rw (alike.height h) at p)
+        (λ h p. record { link = same.link h (node_two s h p); height = alike.height h; low = alike.low h p; high = alike.high h p })
+        same.heads x.order.chains);
+  }
+    where
+      used : t.used ≡ s.used
+      used = x.used_t ∙ x.used_b ∙ x.used_a
+
+  pub refused_kept : NotKept (diagram_of s) (diagram_of t) list (NotHeld (get_or list i 0))
+  refused_kept = record {
+    place = i;
+    within = x.within;
+    before = λ j l. held_back s a x.setting_a.limit x.same_a (get_or list j 0) (x.marks.held j l);
+    missing = λ h. x.missing (held_alike s b limit_b same_b (get_or list i 0) h);
+    named = refl;
+    alike = alike;
+  }
 
 -- Accepted: from s to a no mark is left, from a to b what the listed handles reach is marked, from b to c the rest is freed,
 -- and from c to t the chains are made anew.
 pub record Sweep (s a b c t : NodeTable) (list : List ℕ) : Type 0 where
   pub order : InOrder s
-  pub held : AllHeld (diagram_of s) list
   pub setting_a : SameSetting s a
   pub same_a : SameButMarks s a
   pub setting_b : SameSetting a b
@@ -144,7 +199,7 @@ module _ (s a b c t : NodeTable) (list : List ℕ) (x : Sweep s a b c t list) wh
   swept_kept = record {
     same = chosen_keeps s.qubits.number (diagram_of s) (diagram_of t) (λ k. mark b k ≡ 1) chosen_t x.order.reduced;
     reached = reached';
-    stays = λ i l k r. chosen_reach s.qubits.number (diagram_of s) (diagram_of t) (λ h. mark b h ≡ 1) chosen_t x.order.reduced (get_or list i 0) k (x.held i l) (x.marks.roots i l) r;
+    stays = λ i l k r. chosen_reach s.qubits.number (diagram_of s) (diagram_of t) (λ h. mark b h ≡ 1) chosen_t x.order.reduced (get_or list i 0) k (held_back s a x.setting_a.limit x.same_a (get_or list i 0) (x.marks.held i l)) (x.marks.roots i l) r;
   }
     where
       reached' : (k : ℕ) → Node t k → (i : ℕ) × (i < length list) × Reaches (diagram_of s) (get_or list i 0) k

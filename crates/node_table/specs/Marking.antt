@@ -31,21 +31,10 @@ pub record Marks (s t : NodeTable) (h : ℕ) : Type 0 where
 -- no node is marked but those that the first i listed handles reach
 pub record MarksListed (s t : NodeTable) (list : List ℕ) (i : ℕ) : Type 0 where
   pub same : SameButMarks s t
+  pub held : (j : ℕ) → j < i → Held (diagram_of s) (slice_index list j)
   pub roots : (j : ℕ) → j < i → Marked t (slice_index list j)
   pub reached : (k : ℕ) → Node s k → mark t k ≡ 1 → (j : ℕ) × (j < i) × Reaches (diagram_of s) (slice_index list j) k
   pub closed : (k : ℕ) → Node s k → mark t k ≡ 1 → Marked t ((diagram_of s).low k) × Marked t ((diagram_of s).high k)
-
--- each listed handle is held
-abbrev pub AllHeld : Diagram → List ℕ → Type 0
-AllHeld s list = (i : ℕ) → i < length list → Held s (slice_index list i)
-
--- h is the first listed handle that is not held
-pub record FirstMissing (s : Diagram) (list : List ℕ) (h : ℕ) : Type 0 where
-  pub place : ℕ
-  pub within : place < length list
-  pub before : (i : ℕ) → i < place → Held s (slice_index list i)
-  pub missing : Held s (slice_index list place) → ⊥
-  pub named : h ≡ slice_index list place
 
 -- The refusal e names the first listed handle that is not held, and the nodes are as they were.
 pub record NotKept (s t : Diagram) (list : List ℕ) (e : StoreFault) : Type 0 where

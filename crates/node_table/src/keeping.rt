@@ -1,11 +1,11 @@
 //! Keeping what some handles reach, and freeing the rest.
-ghost use Rattle.std.specs.Prelude.{◌≡◌, ℕ, ◌+◌, ◌<◌, ◌≤◌, ◌==◌, ◌≢◌, MatchOption};
+ghost use Rattle.std.specs.Prelude.{◌≡◌, ℕ, ◌+◌, ◌<◌, ◌≤◌, ◌==◌, ◌≢◌, cond};
 ghost use Rattle.diagrams.specs.Diagrams.{Held, Reduced};
 ghost use Rattle.node_table.specs.Layout.{diagram_of, Node, mark, SameSetting, OnlyWords};
 ghost use Rattle.node_table.specs.Ordering.{InOrder};
-ghost use Rattle.node_table.specs.Marking.{AllHeld, FirstMissing, SameButMarks, Marks, KeptNodes};
+ghost use Rattle.node_table.specs.Marking.{SameButMarks, Marks, KeptNodes};
 
-use crate::table::{Branch, MARK, NodeTable, first_word};
+use crate::table::{Branch, LINK, MARK, NodeTable, first_word};
 use functions::StoreFault;
 
 impl NodeTable {
@@ -17,11 +17,13 @@ impl NodeTable {
         ensures order { InOrder self.new }
         ensures kept { KeptNodes (diagram_of self.old) (diagram_of self.new) list.now result }
     {
-        if let Some(h) = self.first_missing(list) {
-            return Err(StoreFault::NotHeld(h));
-        }
-        self.unmark();
+        self.set_marks(false);
         for h in list {
+            if !self.holds(*h) {
+                // Where `used` stands says nothing of marks then, so that every place has to have one.
+                self.set_marks(true);
+                return Err(StoreFault::NotHeld(*h));
+            }
             self.mark(*h);
         }
         self.free_unmarked(0, self.limit);
@@ -30,24 +32,15 @@ impl NodeTable {
         Ok(())
     }
 
-    // The first listed handle that is not held.
-    fn first_missing(&self, list: &[u32]) -> Option<u32>
-        ensures { MatchOption result (AllHeld (diagram_of self.now) list.now) (λ h. FirstMissing (diagram_of self.now) list.now h) }
-    {
-        list.iter().copied().find(|h| !self.holds(*h))
-    }
-
-    // Takes every mark away.
-    fn unmark(&mut self)
+    // Marks every place, or none.
+    fn set_marks(&mut self, marked: bool)
         ensures only { OnlyWords self.old self.new }
         ensures same { SameButMarks self.old self.new }
-        ensures none { (h : ℕ) → 2 ≤ h → h < self.old.limit + 2 → mark self.new h ≡ 0 }
+        ensures all { (h : ℕ) → 2 ≤ h → h < self.old.limit + 2 → mark self.new h ≡ cond marked 1 0 }
     {
         // Not by the library's chunks of four: it says nothing of what they hold after a write.
         for h in 2..self.limit + 2 {
-            if self.marked(h) {
-                self.words[first_word(h)] -= MARK;
-            }
+            self.set_mark(h, marked);
         }
     }
 
@@ -62,7 +55,7 @@ impl NodeTable {
             return;
         }
         let Branch { low, high, .. } = self.branch(h);
-        self.set_mark(h);
+        self.set_mark(h, true);
         self.mark(low);
         self.mark(high);
     }
@@ -75,15 +68,16 @@ impl NodeTable {
         self.node(h)[0] / MARK % 2 == 1
     }
 
-    // Marks one node.
-    fn set_mark(&mut self, h: u32)
-        requires used { Node self.old h }
-        requires unmarked { mark self.old h ≡ 0 }
+    // Marks a place, or takes its mark away.
+    fn set_mark(&mut self, h: u32, marked: bool)
+        requires { (2 ≤ h) × (h < self.old.limit + 2) }
         ensures only { OnlyWords self.old self.new }
         ensures same { SameButMarks self.old self.new }
-        ensures marked { mark self.new h ≡ 1 }
+        ensures marked { mark self.new h ≡ cond marked 1 0 }
         ensures others { (k : ℕ) → 2 ≤ k → (k ≢ h) → mark self.new k ≡ mark self.old k }
     {
-        self.words[first_word(h)] += MARK;
+        let at = first_word(h);
+        let word = self.words[at];
+        self.words[at] = word / LINK * LINK + MARK * u32::from(marked) + word % MARK;
     }
 }

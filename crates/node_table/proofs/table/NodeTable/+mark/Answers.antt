@@ -6,6 +6,9 @@ use Rattle.node_table.proofs.table.NodeTable.+mark.Goals as goal
 pub marked-requires : goal.marked-requires
 marked-requires t c = node_at _ _ (c.requires.held c.if-h-lt2.false)
 
+pub set_mark-requires : goal.set_mark-requires
+set_mark-requires t c = node_at _ _ (c.requires.held c.if-h-lt2.false)
+
 pub mark-requires : goal.mark-requires
 mark-requires t c =
     let e = c.set_mark.ensures in
