@@ -1,28 +1,17 @@
 -- What the calls of a store ask of a diagram, and their refusals that do not depend on space.
-use Rattle.std.proofs.Common.{◌≡◌, ℕ, ◌-◌, ◌^◌, ◌<◌, ◌≤◌, Bool, ltb, Ok, Err, Result, sym, refl, ap, ◌∙◌, subst, arith}
+use Rattle.std.proofs.Common.{◌≡◌, ℕ, ◌-◌, ◌^◌, ◌<◌, ◌≤◌, Bool, ltb, Ok, Err, sym, ap, ◌∙◌, arith}
 use Rattle.std.proofs.lemmas.Bool.{cond-true, cond-false, lt-ltb, le-ltb}
 use Rattle.exact.specs.Indices.{bits}
 use Rattle.exact.specs.declared.Qubit.{Qubit}
-use Rattle.functions.specs.declared.faults.StoreFault.{StoreFault}
 use Rattle.functions.specs.declared.faults.StoreFault.TheVariants.{IndexOutOfRange, QubitOutOfRange, NotHeld}
-use Rattle.functions.specs.Tables.{Table, value_at, literal, fixed, ones}
-use Rattle.functions.specs.Meanings.{Meaning}
-use Rattle.functions.specs.Answers.{checked, and_then, or_not_held, function_under, literal_asked, fixed_asked, combine_asked, value_answer, ones_answer, Due, Made}
-use Rattle.functions.proofs.Asked.{function_at, and_then_ok, literal_known, fixed_known, combine_known}
+use Rattle.functions.specs.Tables.{value_at, literal, fixed, ones}
+use Rattle.functions.specs.Answers.{checked, and_then, function_under, literal_asked, fixed_asked, combine_asked, value_answer, ones_answer}
+use Rattle.functions.proofs.Asked.{function_at, function_none, and_then_ok, and_then_err, literal_known, fixed_known, combine_known}
 use Rattle.diagrams.specs.Diagrams.{Diagram, function_over, Held, Reduced}
 use Rattle.diagrams.specs.Forming.{combination, fixing, bit_of}
 use Rattle.diagrams.specs.Meanings.{diagram_meaning, InLimit}
 use Rattle.diagrams.proofs.Wanted.{fixing_asked, bit_asked}
 use Rattle.diagrams.proofs.Meanings.{under_held, under_not_held}
-
--- a refusal that is due before any space is looked at
-pub made_refused : (v w : Meaning) (asked : Result Table StoreFault) (e : StoreFault) → asked ≡ Err e → w ≡ v → Made v w asked (Err e)
-unfolding Made Due
-made_refused v w asked e a q = record { unchanged = q; due = subst (λ (r : Result Table StoreFault). Due v r e) (sym a) refl }
-
-and_then_err : {X Y : Type 0} (r : Result X StoreFault) (f : X → Result Y StoreFault) (e : StoreFault) → r ≡ Err e → and_then r f ≡ Err e
-unfolding and_then
-and_then_err {X = X} r f e p = ap (λ (q : Result X StoreFault). and_then q f) p
 
 -- the functions wanted look at no more than n qubits
 pub combination_within : (n : ℕ) (s : Diagram) → Reduced n s → (rule f g h : ℕ) → (combination s rule f g h).least ≤ n
@@ -33,8 +22,7 @@ fixing_within n s o f m b = o.within f
 
 module _ (n limit : ℕ) (s : Diagram) where
   function_missing : (h : ℕ) → (Held s h → ⊥) → function_under (diagram_meaning n limit s) h ≡ Err (NotHeld h)
-  unfolding function_under or_not_held
-  function_missing h out = ap (or_not_held h) (under_not_held n limit s h out)
+  function_missing h out = function_none (diagram_meaning n limit s) h (under_not_held n limit s h out)
 
   -- qubits and indices out of range
   pub literal_out : (q : Qubit) → n ≤ q.0 → literal_asked (diagram_meaning n limit s) q ≡ Err (QubitOutOfRange q)

@@ -1,5 +1,5 @@
 -- The functions of a diagram: what they are at each height, that equal ones have one handle, and that they stay.
-use Rattle.std.proofs.Common.{◌≡◌, ℕ, zero, suc, ◌+◌, ◌-◌, ◌^◌, ◌<◌, ◌≤◌, Bool, eqb, ◌⊎◌, List, [], ◌∷◌, ◌++◌, length, take, drop, sym, refl, ap, ◌∙◌, subst, inl, inr, ⊎_elim, pow-suc, arith, length-append}
+use Rattle.std.proofs.Common.{◌≡◌, ℕ, zero, suc, ◌+◌, ◌-◌, ◌^◌, ◌<◌, ◌≤◌, Bool, cond, eqb, ◌⊎◌, List, [], ◌∷◌, ◌++◌, length, take, drop, sym, refl, ap, ◌∙◌, subst, inl, inr, ⊎_elim, pow-suc, arith, length-append}
 use Rattle.std.proofs.lemmas.List.{take_at, drop_at}
 use Rattle.std.proofs.lemmas.Bool.{cases_eq, cases_lt, eq-eqb, ne_eqb}
 use Rattle.std.proofs.lemmas.Bool.Decides.{nat_tests}
@@ -45,29 +45,20 @@ pub over_above : (s : Diagram) (d h : ℕ) → s.height h ≤ d → function_ove
 over_above s d h l = over_skip s d h (λ e. omega arith)
 
 -- the halves of a held handle are held, and look at later qubits
-pub low_half_held : (n : ℕ) (s : Diagram) → Reduced n s → (d h : ℕ) → Held s h → s.height h ≤ suc d → Held s (low_half s d h) × (s.height (low_half s d h) ≤ d)
-low_half_held n s o d h hh l = ⊎_elim node skip (cases_eq (s.height h) (suc d))
+half_held : (s : Diagram) (d h half : ℕ) → (0 < s.height h → Held s half × (s.height half < s.height h)) → Held s h → s.height h ≤ suc d → Held s (cond (eqb (s.height h) (suc d)) half h) × (s.height (cond (eqb (s.height h) (suc d)) half h) ≤ d)
+half_held s d h half of hh l = ⊎_elim node skip (cases_eq (s.height h) (suc d))
   where
-    node : s.height h ≡ suc d → Held s (low_half s d h) × (s.height (low_half s d h) ≤ d)
-    node e =
-        let p : 0 < s.height h = omega arith in
-        let x : s.height (s.low h) ≤ d = omega (arith, o.low_later h p) in
-        rw (eq-eqb (s.height h) (suc d) e) (o.low_held h p, x)
+    node : s.height h ≡ suc d → Held s (cond (eqb (s.height h) (suc d)) half h) × (s.height (cond (eqb (s.height h) (suc d)) half h) ≤ d)
+    node e = let x = of (omega arith) in rw (eq-eqb (s.height h) (suc d) e) (x.0, omega (arith, x.1))
 
-    skip : (s.height h ≡ suc d → ⊥) → Held s (low_half s d h) × (s.height (low_half s d h) ≤ d)
+    skip : (s.height h ≡ suc d → ⊥) → Held s (cond (eqb (s.height h) (suc d)) half h) × (s.height (cond (eqb (s.height h) (suc d)) half h) ≤ d)
     skip e = let x : s.height h ≤ d = omega arith in rw (ne_eqb (s.height h) (suc d) e) (hh, x)
+
+pub low_half_held : (n : ℕ) (s : Diagram) → Reduced n s → (d h : ℕ) → Held s h → s.height h ≤ suc d → Held s (low_half s d h) × (s.height (low_half s d h) ≤ d)
+low_half_held n s o d h = half_held s d h (s.low h) (λ p. (o.low_held h p, o.low_later h p))
 
 pub high_half_held : (n : ℕ) (s : Diagram) → Reduced n s → (d h : ℕ) → Held s h → s.height h ≤ suc d → Held s (high_half s d h) × (s.height (high_half s d h) ≤ d)
-high_half_held n s o d h hh l = ⊎_elim node skip (cases_eq (s.height h) (suc d))
-  where
-    node : s.height h ≡ suc d → Held s (high_half s d h) × (s.height (high_half s d h) ≤ d)
-    node e =
-        let p : 0 < s.height h = omega arith in
-        let x : s.height (s.high h) ≤ d = omega (arith, o.high_later h p) in
-        rw (eq-eqb (s.height h) (suc d) e) (o.high_held h p, x)
-
-    skip : (s.height h ≡ suc d → ⊥) → Held s (high_half s d h) × (s.height (high_half s d h) ≤ d)
-    skip e = let x : s.height h ≤ d = omega arith in rw (ne_eqb (s.height h) (suc d) e) (hh, x)
+high_half_held n s o d h = half_held s d h (s.high h) (λ p. (o.high_held h p, o.high_later h p))
 
 -- ---- what holds at a height and goes one up holds from there on
 up_by : (P : ℕ → Type 0) (m : ℕ) → P m → ((d : ℕ) → m ≤ d → P d → P (suc d)) → (k : ℕ) → P (k + m)

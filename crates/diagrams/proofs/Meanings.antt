@@ -1,6 +1,7 @@
 -- A reduced diagram within its limit means a store that keeps the laws of every store.
-use Rattle.std.proofs.Common.{◌≡◌, ℕ, zero, suc, ◌+◌, ◌^◌, ◌<◌, ◌≤◌, true, false, cond, eqb, ◌⊎◌, List, [], length, Some, None, Option, sym, refl, ap, ◌∙◌, subst, inl, inr, ⊎_elim, arith}
+use Rattle.std.proofs.Common.{◌≡◌, ℕ, zero, suc, ◌+◌, ◌^◌, ◌<◌, ◌≤◌, true, false, cond, eqb, ◌⊎◌, List, [], length, Some, None, sym, refl, ap, ◌∙◌, subst, inl, inr, ⊎_elim, arith}
 use Rattle.std.proofs.lemmas.Bool.{cases_eq, cases_lt, ne_eqb, cond-false}
+use Rattle.std.proofs.lemmas.Option.{none-some}
 use Rattle.functions.specs.Tables.{Table, constant}
 use Rattle.functions.specs.Sets.{among, space}
 use Rattle.functions.specs.Meanings.{Laws, entry, under, held, Holds, constants_only}
@@ -20,9 +21,6 @@ held_cases s h = ⊎_elim
     (λ (l : h < 2). inl (constant_held s h l))
     (λ l. ⊎_elim (λ (p : 0 < s.height h). inl (λ two. p)) (λ p. inr (l, omega arith)) (cases_lt 0 (s.height h)))
     (cases_lt h 2)
-
-no_some : {X : Type 0} (f : Table) → ◌≡◌ {A = Option Table} None (Some f) → X
-no_some f e = absurd (let z : ◌≡◌ {A = ℕ} 0 1 = cc in let b : ⊥ = omega arith in b)
 
 -- the same nodes mean the same
 pub alike_meaning : (n limit : ℕ) (s t : Diagram) → Reduced n s → Alike s t → diagram_meaning n limit t ≡ diagram_meaning n limit s
@@ -73,7 +71,7 @@ module _ (n limit : ℕ) (s : Diagram) where
     pub under_inverse : (h : ℕ) (f : Table) → under (diagram_meaning n limit s) h ≡ Some f → Held s h × (f ≡ function_over s n h)
     under_inverse h f e = ⊎_elim
         (λ (hh : Held s h). (hh, (let z : Some f ≡ Some (function_over s n h) = sym e ∙ under_held h hh in let q : f ≡ function_over s n h = cc in q)))
-        (λ (out : (2 ≤ h) × (s.height h ≡ 0)). no_some f (sym (under_none h out.0 out.1) ∙ e))
+        (λ (out : (2 ≤ h) × (s.height h ≡ 0)). absurd (none-some f (sym (under_none h out.0 out.1) ∙ e)))
         (held_cases s h)
 
     pub node_holds : (h : ℕ) → 0 < s.height h → Holds (diagram_meaning n limit s) (function_over s n h)
