@@ -9,7 +9,7 @@ use Rattle.node_table.specs.Layout.{diagram_of, word, Node, head, mark, SameSett
 use Rattle.node_table.specs.Chains.{chain_of, Chains, Attached, SmallHeads}
 use Rattle.node_table.specs.Ordering.{InOrder, Grown}
 use Rattle.node_table.specs.Adding.{FirstFree, Fits, Written}
-use Rattle.node_table.proofs.Layouts.{height_past, height_node, node_two, node_within, same_height, same_low, same_high, low_is, high_is}
+use Rattle.node_table.proofs.Layouts.{apart, height_past, height_node, node_two, node_within, same_height, same_low, same_high, low_is, high_is}
 use Rattle.node_table.proofs.Walks.{chained_more}
 use Rattle.node_table.proofs.Rebuilding.{SameLinks, chains_agree, attached_chains, small_heads}
 
@@ -24,10 +24,7 @@ pub record Added (s t : Diagram) (k m low high : ℕ) : Type 0 where
 
 module _ (n : ℕ) (s t : Diagram) (k m low high : ℕ) (o : Reduced n s) (a : Added s t k m low high) where
   held_apart : (h : ℕ) → Held s h → h ≡ k → ⊥
-  held_apart h hh e =
-      let p : 0 < s.height h = hh (omega (arith, a.two)) in
-      let q : s.height h ≡ s.height k = ap s.height e in
-      omega (arith, a.free)
+  held_apart h hh e = apart s k h a.free (hh (omega (arith, a.two))) e
 
   pub added_keeps : Keeps s t
   added_keeps = record {
@@ -128,13 +125,10 @@ pub record Steps (s a u : NodeTable) (k m low high : ℕ) : Type 0 where
 
 -- the first step
 module _ (s a : NodeTable) (k m low high : ℕ) (el : a.limit ≡ s.limit) (free : (diagram_of s).height k ≡ 0) (w : Written s a k m low high) where
-  node_apart : (h : ℕ) → Node s h → h ≡ k → ⊥
-  node_apart h p e = let q : (diagram_of s).height h ≡ (diagram_of s).height k = ap (diagram_of s).height e in omega arith
-
   same_links : (h : ℕ) → Node s h → SameLinks s a h
   same_links h p =
       let l = node_two s h p in
-      let ne = node_apart h p in
+      let ne = apart (diagram_of s) k h free p in
       record {
         link = ap (λ (x : ℕ). x / 64) (w.others h 0 (omega arith) l ne);
         height = same_height s a h el (λ q. ap (λ (x : ℕ). x % 32) (w.others h 0 (omega arith) l ne));
@@ -196,21 +190,21 @@ module _ (s a u : NodeTable) (k m low high : ℕ) (x : Steps s a u k m low high)
       rest : (y z : ℕ) → y ≤ 16 → (y + 64 * z) % 32 ≡ y
       rest y z l = omega arith
 
-  apart : (h : ℕ) → Node s h → h ≡ k → ⊥
-  apart h p e = let q : (diagram_of s).height h ≡ (diagram_of s).height k = ap (diagram_of s).height e in omega (arith, x.free.free)
+  other : (h : ℕ) → Node s h → h ≡ k → ⊥
+  other h p = apart (diagram_of s) k h x.free.free p
 
   node_new : Node u k
   node_new = rw steps_added.is_new.height x.fits.positive
 
   node_up : (h : ℕ) → Node s h → Node u h
-  node_up h p = rw (steps_added.height_old h (apart h p)) p
+  node_up h p = rw (steps_added.height_old h (other h p)) p
 
   node_cases : (h : ℕ) → Node u h → (Node s h) ⊎ (h ≡ k)
   node_cases h p = ⊎_elim (λ (e : h ≡ k). inr e) (λ ne. inl (rw (steps_added.height_old h ne) at p)) (cases_eq h k)
 
   steps_chains : Chains u (suc (s.limit + s.used)) (Node u)
   steps_chains =
-      attached_chains a u k x.setting_u.limit x.attached (s.limit + s.used) (Node s) (Node u) node_a up_a apart node_cases node_up node_new
+      attached_chains a u k x.setting_u.limit x.attached (s.limit + s.used) (Node s) (Node u) node_a up_a other node_cases node_up node_new
       (written_chains s a k m low high x.setting_a.limit x.free.free x.written (s.limit + s.used) x.order.chains)
     where
       node_a : Node a k
@@ -238,7 +232,7 @@ module _ (s a u : NodeTable) (k m low high : ℕ) (x : Steps s a u k m low high)
       filled' h l p (inr ne) (inr q) = node_up h (x.free.passed h q (omega (arith, x.used)))
 
       marked' : (h : ℕ) → u.used + 2 ≤ h → Node u h → (Node s h) ⊎ (h ≡ k) → mark u h ≡ 1
-      marked' h l p (inl q) = ap (λ (y : ℕ). y / 32 % 2) (word_old h 0 (omega arith) (node_two s h q) (apart h q)) ∙ x.order.marked h (omega (arith, x.used, x.free.after)) q
+      marked' h l p (inl q) = ap (λ (y : ℕ). y / 32 % 2) (word_old h 0 (omega arith) (node_two s h q) (other h q)) ∙ x.order.marked h (omega (arith, x.used, x.free.after)) q
       marked' h l p (inr e) = absurd (past e)
         where
           past : h ≡ k → ⊥
@@ -250,7 +244,7 @@ module _ (s a u : NodeTable) (k m low high : ℕ) (x : Steps s a u k m low high)
     limit = limit_u;
     keeps = added_keeps s.qubits.number (diagram_of s) (diagram_of u) k m low high x.order.reduced steps_added;
     onward = omega (arith, x.used, x.free.after);
-    word_0 = λ h p. word_old h 0 (omega arith) (node_two s h p) (apart h p);
+    word_0 = λ h p. word_old h 0 (omega arith) (node_two s h p) (other h p);
     new = λ h z p. new' h z p (node_cases h p);
   }
     where

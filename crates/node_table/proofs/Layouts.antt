@@ -1,8 +1,10 @@
 -- What the words of a table say of a handle.
-use Rattle.std.proofs.Common.{◌≡◌, ℕ, ◌+◌, ◌-◌, ◌*◌, ◌/◌, ◌%◌, ◌<◌, ◌≤◌, ◌⊎◌, get_or, vec_items, vec_len, sym, Some, None, refl, ap, ◌∙◌, inl, inr, ⊎_elim, add-zero, arith}
+use Rattle.std.proofs.Common.{◌≡◌, ℕ, ◌+◌, ◌-◌, ◌*◌, ◌/◌, ◌%◌, ◌<◌, ◌≤◌, ◌⊎◌, true, leb, get_or, vec_items, vec_len, sym, Some, None, refl, ap, ◌∙◌, subst, inl, inr, ⊎_elim, add-zero, arith}
 use Rattle.std.proofs.lemmas.Nat.{mod_below}
 use Rattle.std.proofs.lemmas.List.{get_or_read_under}
-use Rattle.std.proofs.lemmas.Bool.{cases_lt, lt-ltb, le-ltb}
+use Rattle.std.proofs.lemmas.Bool.{cases_lt, cases_Bool, cond-true, lt-ltb, le-ltb, leb-true, leb-false}
+use Rattle.std.proofs.lemmas.Option.{none-some, cond_some}
+use Rattle.diagrams.specs.Diagrams.{Diagram}
 use Rattle.node_table.specs.declared.table.NodeTable.{NodeTable}
 use Rattle.node_table.specs.Layout.{word, diagram_of, Node, link, mark, OnlyWords}
 use Rattle.node_table.specs.Chains.{chain_for, handle_in}
@@ -39,6 +41,10 @@ node_within t h p = ⊎_elim (λ (l : h < t.limit + 2). l) (λ l. absurd (past l
   where
     past : t.limit + 2 ≤ h → ⊥
     past l = omega (arith, height_past t h l)
+
+-- a node is another handle than a free one
+pub apart : (s : Diagram) (k h : ℕ) → s.height k ≡ 0 → 0 < s.height h → h ≡ k → ⊥
+apart s k h z p e = omega (arith, ap s.height e)
 
 pub node_at : (t : NodeTable) (h : ℕ) → Node t h → (2 ≤ h) × (h < t.limit + 2)
 node_at t h p = (node_two t h p, node_within t h p)
@@ -77,23 +83,13 @@ chain_below limit m low high some = mod_below (low * 12289 + high * 24593 + m * 
 -- the handle in a chain's word
 pub handle_none : (p : ℕ) → handle_in p ≡ None → p < 2
 unfolding handle_in
-handle_none p e = ⊎_elim (λ (l : p < 2). l) (λ l. absurd (never l)) (cases_lt p 2)
-  where
-    never : 2 ≤ p → ⊥
-    never l = let q : Some p ≡ None = (let z = le-ltb p 2 l in cc) in let z : ◌≡◌ {A = ℕ} 0 1 = cc in let b : ⊥ = omega arith in b
+handle_none p e = leb-false 2 p (⊎_elim (λ (t : leb 2 p ≡ true). absurd (none-some p (sym e ∙ cond-true (leb 2 p) (Some p) None t))) (λ f. f) (cases_Bool (leb 2 p)))
 
 pub handle_some : (p h : ℕ) → handle_in p ≡ Some h → (p ≡ h) × (2 ≤ h)
 unfolding handle_in
-handle_some p h e = ⊎_elim (λ (l : p < 2). absurd (never l)) (λ l. some l) (cases_lt p 2)
-  where
-    never : p < 2 → ⊥
-    never l = let q : Some h ≡ None = (let z = lt-ltb p 2 l in cc) in let z : ◌≡◌ {A = ℕ} 0 1 = cc in let b : ⊥ = omega arith in b
-
-    some : 2 ≤ p → (p ≡ h) × (2 ≤ h)
-    some l =
-        let z = le-ltb p 2 l in
-        let q : p ≡ h = cc in
-        (q, omega (arith, q))
+handle_some p h e =
+    let q = cond_some (leb 2 p) p h e in
+    (q.1, subst (λ (y : ℕ). 2 ≤ y) q.1 (leb-true 2 p q.0))
 
 pub mark_cases : (t : NodeTable) (h : ℕ) → (mark t h ≡ 0) ⊎ (mark t h ≡ 1)
 mark_cases t h = ⊎_elim (λ (l : mark t h < 1). inl (omega arith)) (λ l. inr (omega arith)) (cases_lt (mark t h) 1)

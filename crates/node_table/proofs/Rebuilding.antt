@@ -5,7 +5,7 @@ use Rattle.diagrams.specs.Forming.{Alike}
 use Rattle.node_table.specs.declared.table.NodeTable.{NodeTable}
 use Rattle.node_table.specs.Layout.{diagram_of, word, Node, link, head, mark}
 use Rattle.node_table.specs.Chains.{chain_for, chain_of, Chained, Chains, ChainedTo, SameNodes, Attached, SmallHeads}
-use Rattle.node_table.proofs.Layouts.{height_constant, node_two, node_within, same_height, same_low, same_high, link_node, link_constant, chain_below}
+use Rattle.node_table.proofs.Layouts.{apart, height_constant, node_two, node_within, same_height, same_low, same_high, link_node, link_constant, chain_below}
 use Rattle.node_table.proofs.Walks.{chained_more, chained_agree, chained_attach}
 
 pub same_nodes_alike : (s t : NodeTable) → t.limit ≡ s.limit → SameNodes s t → Alike (diagram_of s) (diagram_of t)
@@ -150,11 +150,8 @@ enter_skip t k z two x = record {
     wide : (h : ℕ) → Node t h × (h < k) → Node t h × (h < k + 1)
     wide h j = (j.0, omega (arith, j.1))
 
-    apart : (h : ℕ) → Node t h → h ≡ k → ⊥
-    apart h p e = omega (arith, ap (diagram_of t).height e)
-
     thin : (h : ℕ) → Node t h × (h < k + 1) → Node t h × (h < k)
-    thin h j = let ne = apart h j.0 in (j.0, omega (arith, j.1))
+    thin h j = let ne = apart (diagram_of t) k h z j.0 in (j.0, omega (arith, j.1))
 
 pub enter_attach : (s t : NodeTable) (k : ℕ) → t.limit ≡ s.limit → Attached s t k → Node s k → ChainedTo s k → ChainedTo t (k + 1)
 enter_attach s t k el a node x = record {

@@ -11,7 +11,7 @@ use Rattle.node_table.specs.Ordering.{InOrder, Grown}
 use Rattle.node_table.specs.Freeing.{Freed, Restored}
 use Rattle.node_table.proofs.Layouts.{height_constant, height_past, height_zero, node_two, same_height, same_low, same_high}
 use Rattle.node_table.proofs.Walks.{chained_more}
-use Rattle.node_table.proofs.Rebuilding.{same_nodes_mark}
+use Rattle.node_table.proofs.Rebuilding.{same_nodes_alike, same_nodes_mark}
 
 -- From `old` the table grew to s; what is new was freed, and the chains were made anew.
 pub record Undoing (old s a t : NodeTable) : Type 0 where
@@ -60,12 +60,9 @@ module _ (old s a t : NodeTable) (x : Undoing old s a t) where
       go (inr l) (inl p) = same_height old a h (x.setting_a.limit ∙ x.grown.limit) (λ q. ap (λ (y : ℕ). y % 32) (node_word h p))
       go (inr l) (inr p) = let z : (diagram_of old).height h ≡ 0 = omega arith in free_height h l z ∙ sym z
 
-  less : (y z : ℕ) → y % 64 ≡ z % 64 → y % 32 ≡ z % 32
-  less y z e = omega arith
-
   restored_alike : Alike (diagram_of old) (diagram_of t)
   restored_alike = record {
-    height = λ h. same_height a t h x.setting_t.limit (λ l. less (word t h 0) (word a h 0) (x.same.word_0 h l)) ∙ freed_height h;
+    height = λ h. (same_nodes_alike a t x.setting_t.limit x.same).height h ∙ freed_height h;
     low = λ h p. same_low a t h (x.same.word_1 h) ∙ same_low s a h (x.freed.word_1 h) ∙ x.grown.keeps.low h (λ l. p) (node_two old h p);
     high = λ h p. same_high a t h (x.same.word_2 h) ∙ same_high s a h (x.freed.word_2 h) ∙ x.grown.keeps.high h (λ l. p) (node_two old h p);
   }

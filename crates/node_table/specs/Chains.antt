@@ -1,5 +1,5 @@
 -- The chains of a node table: as many as places, and every node stands in the one that its height and halves give.
-use Rattle.std.specs.Prelude.{◌≡◌, ℕ, zero, suc, ◌+◌, ◌-◌, ◌*◌, ◌%◌, ◌<◌, ◌≤◌, ◌≢◌, Some, None, Option, cond, nat_lt}
+use Rattle.std.specs.Prelude.{◌≡◌, ℕ, zero, suc, ◌+◌, ◌-◌, ◌*◌, ◌%◌, ◌<◌, ◌≤◌, ◌≢◌, Some, None, Option, cond, nat_le}
 use Rattle.node_table.specs.declared.table.NodeTable.{NodeTable}
 use Rattle.node_table.specs.Layout.{diagram_of, word, Node, link, head}
 
@@ -12,7 +12,7 @@ chain_of t h = chain_for t.limit ((diagram_of t).height h) ((diagram_of t).low h
 
 -- the handle in a chain's word; below 2 the chain has ended
 unfoldable pub handle_in : ℕ → Option ℕ
-handle_in word = cond (nat_lt word 2) None (Some word)
+handle_in word = cond (nat_le 2 word) (Some word) None
 
 -- k steps along links
 unfoldable pub walk : (ℕ → ℕ) → ℕ → ℕ → ℕ

@@ -7,6 +7,7 @@ ghost use Rattle.node_table.specs.Chains.{chain_for, handle_in, Chains, ChainedT
 use crate::table::{Branch, LINK, NodeTable, first_word};
 
 // The handle in a chain's word; below 2 the chain has ended.
+#[tactic(auto, unfolding(crate::specs::Chains::handle_in))]
 fn handle_in(word: u32) -> Option<u32>
     ensures { result ≡ handle_in word }
 {
@@ -15,6 +16,7 @@ fn handle_in(word: u32) -> Option<u32>
 
 impl NodeTable {
     // The next handle of a node's chain.
+    #[tactic(auto, using(crate::proofs::Layouts::node_at), unfolding(crate::specs::Layout::link))]
     fn link(&self, h: u32) -> Option<u32>
         requires { Node self.now h }
         ensures { result ≡ handle_in (link self.now h) }
@@ -31,6 +33,7 @@ impl NodeTable {
     }
 
     // The chain of a node: a hash by three primes.
+    #[tactic(auto, using(crate::proofs::Layouts::chain_below), unfolding(crate::specs::Chains::chain_for))]
     fn chain(&self, branch: Branch) -> usize
         requires { 0 < self.now.limit }
         ensures is { result ≡ chain_for self.now.limit branch.height branch.low branch.high }
@@ -51,6 +54,7 @@ impl NodeTable {
             return None;
         }
         let mut next = self.head(self.chain(branch));
+        // Not `successors`: its closure would have to go on from any number, and a link is there only at a node.
         for _step in 0..self.limit + self.used {
             let h = next?;
             if self.branch(h) == branch {
@@ -81,6 +85,7 @@ impl NodeTable {
         ensures same { SameNodes self.old self.new }
         ensures none { (b : ℕ) → b < self.old.limit → head self.new b ≡ 0 }
     {
+        // Not over chunks of four words: the library says nothing of what they hold after a write.
         for b in 0..self.limit as usize {
             self.words[4 * b + 3] = 0;
         }

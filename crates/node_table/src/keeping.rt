@@ -38,13 +38,13 @@ impl NodeTable {
         ensures same { SameButMarks self.old self.new }
         ensures all { (h : ℕ) → 2 ≤ h → h < self.old.limit + 2 → mark self.new h ≡ cond marked 1 0 }
     {
-        // Not by the library's chunks of four: it says nothing of what they hold after a write.
         for h in 2..self.limit + 2 {
             self.set_mark(h, marked);
         }
     }
 
     // Marks what a handle reaches, unless it is marked.
+    #[tactic(auto, using(crate::proofs::Layouts::node_at))]
     fn mark(&mut self, h: u32)
         requires reduced { Reduced self.old.qubits.number (diagram_of self.old) }
         requires held { Held (diagram_of self.old) h }

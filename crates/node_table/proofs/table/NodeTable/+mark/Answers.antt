@@ -1,13 +1,7 @@
 use Rattle.std.proofs.Common.{sym, arith}
-use Rattle.node_table.proofs.Layouts.{node_at, only_words_then}
+use Rattle.node_table.proofs.Layouts.{only_words_then}
 use Rattle.node_table.proofs.Markings.{remarked, same_marks_then, marks_both}
 use Rattle.node_table.proofs.table.NodeTable.+mark.Goals as goal
-
-pub marked-requires : goal.marked-requires
-marked-requires t c = node_at _ _ (c.requires.held c.if-h-lt2.false)
-
-pub set_mark-requires : goal.set_mark-requires
-set_mark-requires t c = node_at _ _ (c.requires.held c.if-h-lt2.false)
 
 pub mark-requires : goal.mark-requires
 mark-requires t c =
