@@ -1,5 +1,5 @@
 -- A node more.
-use Rattle.std.proofs.Common.{◌≡◌, ℕ, suc, ◌+◌, ◌-◌, ◌*◌, ◌/◌, ◌%◌, ◌<◌, ◌≤◌, ◌⊎◌, sym, refl, ap, ◌∙◌, subst, inl, inr, ⊎_elim, arith}
+use Rattle.std.proofs.Common.{◌≡◌, ℕ, suc, ◌+◌, ◌-◌, ◌*◌, ◌/◌, ◌%◌, ◌<◌, ◌≤◌, ◌⊎◌, sym, ap, ◌∙◌, subst, inl, inr, ⊎_elim, arith}
 use Rattle.std.proofs.lemmas.Bool.{cases_eq, cases_lt}
 use Rattle.diagrams.specs.Diagrams.{Diagram, Held, Reduced}
 use Rattle.diagrams.specs.Forming.{Keeps, IsNode, Joined}
@@ -260,10 +260,3 @@ module _ (s a u : NodeTable) (k m low high : ℕ) (x : Steps s a u k m low high)
 
   pub steps_joined : Joined (diagram_of s) (diagram_of u) m low high k
   steps_joined = added_joined s.qubits.number (diagram_of s) (diagram_of u) k m low high x.order.reduced steps_added
-
--- where nothing is added
-pub joined_equal : (s : Diagram) (m low high : ℕ) → low ≡ high → Joined s s m low high low
-joined_equal s m low high e = record { kind = inl (e, refl); new = λ k p. inl p }
-
-pub joined_found : (s : Diagram) (m low high h : ℕ) → IsNode s h m low high → Joined s s m low high h
-joined_found s m low high h i = record { kind = inr i; new = λ k p. inl p }

@@ -1,7 +1,6 @@
 -- What the words of a table say of a handle.
-use Rattle.std.proofs.Common.{◌≡◌, ℕ, ◌+◌, ◌-◌, ◌*◌, ◌/◌, ◌%◌, ◌<◌, ◌≤◌, ◌⊎◌, true, leb, get_or, vec_items, vec_len, sym, Some, None, refl, ap, ◌∙◌, subst, inl, inr, ⊎_elim, add-zero, arith}
+use Rattle.std.proofs.Common.{◌≡◌, ℕ, ◌+◌, ◌*◌, ◌/◌, ◌%◌, ◌<◌, ◌≤◌, ◌⊎◌, true, leb, sym, Some, None, refl, ap, ◌∙◌, subst, inl, inr, ⊎_elim, arith}
 use Rattle.std.proofs.lemmas.Nat.{mod_below}
-use Rattle.std.proofs.lemmas.List.{get_or_read_under}
 use Rattle.std.proofs.lemmas.Bool.{cases_lt, cases_Bool, cond-true, lt-ltb, le-ltb, leb-true, leb-false}
 use Rattle.std.proofs.lemmas.Option.{none-some, cond_some}
 use Rattle.diagrams.specs.Diagrams.{Diagram}
@@ -93,20 +92,6 @@ handle_some p h e =
 
 pub mark_cases : (t : NodeTable) (h : ℕ) → (mark t h ≡ 0) ⊎ (mark t h ≡ 1)
 mark_cases t h = ⊎_elim (λ (l : mark t h < 1). inl (omega arith)) (λ l. inr (omega arith)) (cases_lt (mark t h) 1)
-
--- the words of a place in reach
-pub place_within : (t : NodeTable) (h k : ℕ) → 2 ≤ h → h < t.limit + 2 → k < 4 → 4 * (h - 2) + k < vec_len t.words
-place_within t h k l m n = omega (arith, t.sized)
-
-pub node_place : (t : NodeTable) (h k : ℕ) → Node t h → k < 4 → 4 * (h - 2) + k < vec_len t.words
-node_place t h k p n = place_within t h k (node_two t h p) (node_within t h p) n
-
--- a word that was read
-pub read_word : (t : NodeTable) (i x : ℕ) → x ≡ get_or (vec_items t.words) i x → i < vec_len t.words → x ≡ get_or (vec_items t.words) i 0
-read_word t i x e l = get_or_read_under (vec_items t.words) i (vec_len t.words) x 0 e l t.words.ok.0
-
-pub read_first : (t : NodeTable) (h i x : ℕ) → i ≡ 4 * (h - 2) → x ≡ get_or (vec_items t.words) i x → i < vec_len t.words → x ≡ word t h 0
-read_first t h i x j e l = read_word t i x e l ∙ ap (λ (k : ℕ). get_or (vec_items t.words) k 0) (j ∙ sym (add-zero (4 * (h - 2))))
 
 -- words that change, and change again
 pub only_words_self : (t : NodeTable) → OnlyWords t t

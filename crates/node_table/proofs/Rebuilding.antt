@@ -27,13 +27,6 @@ same_nodes_mark s t e h l = less (word t h 0) (word s h 0) (e.word_0 h l)
 pub same_nodes_self : (t : NodeTable) → SameNodes t t
 same_nodes_self t = record { word_0 = λ h l. refl; word_1 = λ h. refl; word_2 = λ h. refl }
 
-pub same_nodes_then : (s t u : NodeTable) → SameNodes s t → SameNodes t u → SameNodes s u
-same_nodes_then s t u x y = record {
-  word_0 = λ h l. y.word_0 h l ∙ x.word_0 h l;
-  word_1 = λ h. y.word_1 h ∙ x.word_1 h;
-  word_2 = λ h. y.word_2 h ∙ x.word_2 h;
-}
-
 pub chain_same : (s t : NodeTable) (h : ℕ) → t.limit ≡ s.limit → (diagram_of t).height h ≡ (diagram_of s).height h → (diagram_of t).low h ≡ (diagram_of s).low h → (diagram_of t).high h ≡ (diagram_of s).high h → chain_of t h ≡ chain_of s h
 chain_same s t h el a b c =
     ap (λ (x : ℕ). chain_for x ((diagram_of t).height h) ((diagram_of t).low h) ((diagram_of t).high h)) el ∙ rw (a, b, c)
@@ -136,22 +129,6 @@ enter_none t z = record {
 
     nothing : (h : ℕ) → Node t h × (h < 2) → ⊥
     nothing h i = omega (arith, height_constant t h i.1)
-
-pub enter_skip : (t : NodeTable) (k : ℕ) → (diagram_of t).height k ≡ 0 → 2 ≤ k → ChainedTo t k → ChainedTo t (k + 1)
-enter_skip t k z two x = record {
-  chains = record {
-    head_in = λ b l m. wide (head t b) (x.chains.head_in b l m);
-    link_in = λ h j m. wide (link t h) (x.chains.link_in h (thin h j) m);
-    ends = x.chains.ends;
-    found = λ h j. let f = x.chains.found h (thin h j) in (f.0, omega (arith, f.1), f.2);
-  };
-}
-  where
-    wide : (h : ℕ) → Node t h × (h < k) → Node t h × (h < k + 1)
-    wide h j = (j.0, omega (arith, j.1))
-
-    thin : (h : ℕ) → Node t h × (h < k + 1) → Node t h × (h < k)
-    thin h j = let ne = apart (diagram_of t) k h z j.0 in (j.0, omega (arith, j.1))
 
 pub enter_attach : (s t : NodeTable) (k : ℕ) → t.limit ≡ s.limit → Attached s t k → Node s k → ChainedTo s k → ChainedTo t (k + 1)
 enter_attach s t k el a node x = record {
