@@ -6,12 +6,12 @@ use Rattle.diagrams.specs.Forming.{Keeps, IsNode, Joined}
 use Rattle.diagrams.proofs.Canonical.{node_handle}
 use Rattle.node_table.specs.declared.table.NodeTable.{NodeTable}
 use Rattle.node_table.specs.Layout.{diagram_of, word, Node, head, mark, SameSetting}
-use Rattle.node_table.specs.Chains.{chain_of, Chains, Attached, SmallHeads}
+use Rattle.node_table.specs.Chains.{chain_of, Chains, Attached}
 use Rattle.node_table.specs.Ordering.{InOrder, Grown}
 use Rattle.node_table.specs.Adding.{FirstFree, Fits, Written}
-use Rattle.node_table.proofs.Layouts.{apart, height_past, height_node, node_two, node_within, same_height, same_low, same_high, low_is, high_is}
+use Rattle.node_table.proofs.Layouts.{apart, height_past, height_node, node_two, same_height, same_low, same_high, low_is, high_is}
 use Rattle.node_table.proofs.Walks.{chained_more}
-use Rattle.node_table.proofs.Rebuilding.{SameLinks, chains_agree, attached_chains, small_heads}
+use Rattle.node_table.proofs.Rebuilding.{SameLinks, chains_agree, attached_chains}
 
 -- t is s with the node k more
 pub record Added (s t : Diagram) (k m low high : ℕ) : Type 0 where
@@ -141,9 +141,6 @@ module _ (s a : NodeTable) (k m low high : ℕ) (el : a.limit ≡ s.limit) (free
 
   pub written_chains : (bound : ℕ) → Chains s bound (Node s) → Chains a bound (Node s)
   written_chains bound x = chains_agree s a bound (Node s) (Node s) el (λ h p. p) (λ h p. p) (λ h p. p) same_links w.heads x
-
-pub written_heads : (s a : NodeTable) (k m low high : ℕ) → a.limit ≡ s.limit → Written s a k m low high → InOrder s → SmallHeads a
-written_heads s a k m low high el w o b l = rw (w.heads b) (small_heads s (s.limit + s.used) (Node s) (node_within s) o.chains b (omega arith))
 
 module _ (s a u : NodeTable) (k m low high : ℕ) (x : Steps s a u k m low high) where
   limit_u : u.limit ≡ s.limit

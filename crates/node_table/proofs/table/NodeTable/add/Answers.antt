@@ -1,20 +1,16 @@
 use Rattle.std.proofs.Common.{◌∙◌, arith}
 use Rattle.node_table.specs.Adding.{Written}
-use Rattle.node_table.proofs.Additions.{Steps, written_node, written_heads, steps_order, steps_grown, steps_joined}
+use Rattle.node_table.proofs.Additions.{Steps, written_node, steps_order, steps_grown, steps_joined}
 use Rattle.node_table.proofs.table.NodeTable.add.Goals as goal
 
-pub attach-requires : goal.attach-requires
-attach-requires c =
+pub attach-requires-clause-node : goal.attach-requires-clause-node
+attach-requires-clause-node c =
     let s = c.args.self.now in
-    let a = c.write.new.self in
-    let w = c.write.ensures.written in
+    let w = c.write.ensures in
     let b = c.args.branch in
-    let limit = c.write.ensures.only.setting.limit in
-    let written : Written s a c.args.h b.height b.low b.high = record { word_0 = w.word_0; word_1 = w.word_1; word_2 = w.word_2; others = w.others; heads = w.heads } in
-    record {
-      node = written_node s a c.args.h b.height b.low b.high limit c.requires.free.free written (omega (arith, c.requires.free.after)) c.requires.free.within c.requires.fits.positive (omega (arith, c.requires.fits.within, s.qubits.within));
-      heads = written_heads s a c.args.h b.height b.low b.high limit written c.requires.order;
-    }
+    let f = c.requires.free in
+    let written : Written s c.write.new.self c.args.h b.height b.low b.high = record { word_0 = w.written.word_0; word_1 = w.written.word_1; word_2 = w.written.word_2; others = w.written.others; heads = w.written.heads } in
+    written_node s c.write.new.self c.args.h b.height b.low b.high w.only.setting.limit f.free written (omega (arith, f.after)) f.within c.requires.fits.positive (omega (arith, c.requires.fits.within, s.qubits.within))
 
 pub returns : goal.returns
 returns c =
