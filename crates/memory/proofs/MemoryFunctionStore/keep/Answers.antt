@@ -3,7 +3,7 @@ use Rattle.std.specs.List.{AllByRecursion as All}
 use Rattle.std.proofs.lemmas.Result.{err_from_is_err_and}
 use Rattle.memory.specs.Remembering.{Right, Remembers, KeptOver}
 use Rattle.memory.proofs.Remembering.{all_right_refused, kept_refused}
-use Rattle.memory.proofs.Memory.keep.Goals as goal
+use Rattle.memory.proofs.MemoryFunctionStore.keep.Goals as goal
 
 pub returns-in_err-keep : goal.returns-in_err-keep
 returns-in_err-keep g c =

@@ -1,6 +1,6 @@
 use Rattle.std.proofs.Common.{refl}
 use Rattle.memory.proofs.Remembering.{all_right_made}
-use Rattle.memory.proofs.Memory.fixed.Goals as goal
+use Rattle.memory.proofs.MemoryFunctionStore.fixed.Goals as goal
 
 pub returns : goal.returns
 returns g c = record {
