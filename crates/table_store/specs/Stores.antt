@@ -14,10 +14,10 @@ use Rattle.table_store.specs.Places.{width, limit_of, words_at, contents}
 
 -- what the places of a store hold
 abbrev pub places_of : TableStore → List Content
-places_of s = contents s.qubits s.limit (vec_items s.words)
+places_of s = contents s.qubits.number s.limit (vec_items s.words)
 
 abbrev pub meaning_of : TableStore → Meaning
-meaning_of s = meaning_over s.qubits s.limit (places_of s)
+meaning_of s = meaning_over s.qubits.number s.limit (places_of s)
 
 -- the function that some words are is not constant
 unfoldable pub Varies : ℕ → List ℕ → Type 0
@@ -41,25 +41,13 @@ pub record LaidOut (n limit : ℕ) (ws : List ℕ) : Type 0 where
   pub marked : (p : ℕ) → p < limit → (slice_index ws p ≢ 0) → slice_index ws p ≡ mark_of (words_at n limit ws p)
 
 pub record InOrder (s : TableStore) : Type 0 where
-  pub laid_out : LaidOut s.qubits s.limit (vec_items s.words)
-  pub places : PlacesInOrder s.qubits s.limit (places_of s)
+  pub laid_out : LaidOut s.qubits.number s.limit (vec_items s.words)
+  pub places : PlacesInOrder s.qubits.number s.limit (places_of s)
 
 -- The words of the function under a handle, or the refusal that none is held under it.
 unfoldable pub TableUnder : TableStore → ℕ → Result PackedTable StoreFault → Type 0
-TableUnder s k (Ok t) = (under (meaning_of s) k ≡ Some (unpacked s.qubits t.words)) × Clean s.qubits t.words
+TableUnder s k (Ok t) = (under (meaning_of s) k ≡ Some (unpacked s.qubits.number t.words)) × Clean s.qubits.number t.words
 TableUnder s k (Err e) = (e ≡ NotHeld k) × (under (meaning_of s) k ≡ None)
-
--- Of the places from one to another, p is the first that holds x.
-pub record FirstPlace (ps : List Content) (x : Content) (from to p : ℕ) : Type 0 where
-  pub above : from ≤ p
-  pub below : p < to
-  pub holds : slice_get ps p ≡ Some x
-  pub first : (q : ℕ) → from ≤ q → q < p → slice_get ps q ≢ Some x
-
--- The first that does, or none.
-unfoldable pub FirstWith : List Content → Content → ℕ → ℕ → Option ℕ → Type 0
-FirstWith ps x from to None = (p : ℕ) → from ≤ p → p < to → slice_get ps p ≢ Some x
-FirstWith ps x from to (Some p) = FirstPlace ps x from to p
 
 -- A place below the limit that holds x, or none.
 unfoldable pub SomeWith : List Content → Content → ℕ → Option ℕ → Type 0
