@@ -16,11 +16,12 @@ use Rattle.functions.proofs.Asked.{made_again}
 use Rattle.table_words.specs.declared.PackedTable.{PackedTable}
 use Rattle.table_words.specs.Words.{unpacked, Clean, Packs, same_words}
 use Rattle.table_words.proofs.Words.{unpacked_once, equal_same, same_equal as words-equal}
-use Rattle.table_store.specs.Handles.{Content, meaning_over}
+use Rattle.table_places.specs.Handles.{Content, meaning_over}
 use Rattle.table_store.specs.declared.TableStore.{TableStore}
 use Rattle.table_store.specs.Places.{contents}
-use Rattle.table_store.specs.Stores.{PlacesInOrder, LaidOut, InOrder, Varies, SomeWith, Written, places_of, meaning_of}
-use Rattle.table_store.specs.Holding.{none_is_some, words_of, under_at, under_constant, Stands, for_constant, for_place, stands, stood, held_words, held_at, place_below, not_constant, places_lawful}
+use Rattle.table_places.specs.Order.{PlacesInOrder, Varies}
+use Rattle.table_store.specs.Stores.{LaidOut, InOrder, SomeWith, Written, places_of, meaning_of}
+use Rattle.table_places.proofs.Holding.{none_is_some, words_of, under_at, under_constant, Stands, for_constant, for_place, stands, stood, held_words, held_at, place_below, not_constant, places_lawful}
 
 pub nth_set_same : {X : Type 0} (xs : List X) (i : ℕ) (x y : X) → slice_get xs i ≡ Some y → slice_get (set xs i x) i ≡ Some x
 nth_set_same [] i x y e = absurd (none_is_some y e)

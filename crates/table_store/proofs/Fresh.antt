@@ -2,14 +2,15 @@
 use Rattle.std.proofs.Common.{◌≡◌, ℕ, suc, ◌+◌, ◌-◌, ◌*◌, ◌/◌, ◌<◌, ◌≤◌, min, ◌&&◌, eqb, leb, List, [], ◌∷◌, ◌++◌, length, get_or, take, drop, replicate, Some, None, Ok, Err, vec_items, Result, sym, refl, ap, ◌∙◌, subst, ap₂, ⊎_elim, mul-le-mul_right, mul-le-mul_left, div-mul-le_self, arith}
 use Rattle.std.specs.List.{slice_get}
 use Rattle.std.proofs.lemmas.List.{append-nil, take_all, drop_all, length-replicate, length-append, length-drop, get_or_append_left, get_or-replicate}
-use Rattle.std.proofs.lemmas.Bool.{le-leb, lt-leb, eq-eqb, ne_eqb, cases_eq, cases_lt, cond-true, cond-false, and_left, and_right, and_from}
+use Rattle.std.proofs.lemmas.Bool.{le-leb, lt-leb, eq-eqb, ne_eqb, cases_lt, cond-true, cond-false, and_left, and_right, and_from}
 use Rattle.functions.specs.declared.faults.StoreFault.{StoreFault}
 use Rattle.functions.specs.declared.faults.StoreFault.TheVariants.{NoSuchStore}
 use Rattle.functions.specs.Meanings.{Meaning, only_itself, constants_only}
 use Rattle.table_store.specs.declared.TableStore.{TableStore}
-use Rattle.table_store.specs.Handles.{Content, entries_from, meaning_over}
+use Rattle.table_places.specs.Handles.{Content, entries_from, meaning_over}
 use Rattle.table_store.specs.Places.{width, limit_of, contents}
-use Rattle.table_store.specs.Stores.{LaidOut, PlacesInOrder, store_check, setting_by, NewStore}
+use Rattle.table_places.specs.Order.{PlacesInOrder}
+use Rattle.table_store.specs.Stores.{LaidOut, store_check, setting_by, NewStore}
 use Rattle.table_store.proofs.Laid.{used_place, length_contents}
 
 -- ---- the check

@@ -10,10 +10,10 @@ use Rattle.std.proofs.lemmas.Option.{slice_get-get_or, slice_get_past}
 use Rattle.std.proofs.lemmas.Bool.{eq-eqb, ne_eqb, cases_eq, cases_lt, lt-ltb, le-ltb, cond-true, cond-false}
 use Rattle.table_words.specs.Words.{Clean}
 use Rattle.table_store.specs.Marks.{mixed, mark_of}
-use Rattle.table_store.specs.Handles.{Content}
+use Rattle.table_places.specs.Handles.{Content}
 use Rattle.table_store.specs.Places.{width, word_at, words_at, content, contents}
 use Rattle.table_store.specs.Stores.{LaidOut, Written}
-use Rattle.table_store.specs.Holding.{none_is_some}
+use Rattle.table_places.proofs.Holding.{none_is_some}
 
 -- ---- widths and places
 pub width_few : (n : ℕ) → n ≤ 8 → width n ≤ 4
@@ -294,13 +294,13 @@ written_part n limit p mark w first end len ws t us zs vs o l long clean made ew
     let part : length (take w t) ≡ w = length-take-le w t (omega arith) in
     let wide : end - first ≡ w = omega arith in
     let same : put_mid first (end - first) zs us ≡ put_mid first w (set ws p mark) (take w t) =
-      ap (λ (k : ℕ). put_mid first k zs us) wide ∙ ap₂ (λ (xs ys : List ℕ). put_mid first w xs ys) ez eu in
+    ap (λ (k : ℕ). put_mid first k zs us) wide ∙ ap₂ (λ (xs ys : List ℕ). put_mid first w xs ys) ez eu in
     let whole : length (put_mid first (end - first) zs us) ≡ length ws = ap length same ∙ put_long first w (set ws p mark) (take w t) (omega arith) part ∙ many in
     let rest : drop (length (put_mid first (end - first) zs us)) (set ws p mark) ≡ [] = drop_all (length (put_mid first (end - first) zs us)) (set ws p mark) (omega arith) in
     let all : vs ≡ put_mid first w (set ws p mark) (take w t) =
-      ev
-      ∙ ap (take len) (ap (λ (xs : List ℕ). put_mid first (end - first) zs us ++ xs) rest ∙ append-nil (put_mid first (end - first) zs us))
-      ∙ take_all len (put_mid first (end - first) zs us) (omega arith)
-      ∙ same in
+    ev
+    ∙ ap (take len) (ap (λ (xs : List ℕ). put_mid first (end - first) zs us ++ xs) rest ∙ append-nil (put_mid first (end - first) zs us))
+    ∙ take_all len (put_mid first (end - first) zs us) (omega arith)
+    ∙ same in
     written n limit p mark ws t vs o l long clean made
     (subst (λ (k : ℕ). Writing ws t k p mark vs (width n)) ef (subst (λ (k : ℕ). Writing ws t first p mark vs k) ew (writing ws t first p mark w vs (omega arith) (omega arith) (omega arith) all)))

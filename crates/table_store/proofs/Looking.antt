@@ -5,7 +5,7 @@ use Rattle.std.specs.Prelude.{IsTrue, ◌↔◌}
 use Rattle.std.specs.Option.{MatchOption}
 use Rattle.std.proofs.lemmas.Nat.{mul-le}
 use Rattle.std.proofs.lemmas.List.{get_or_read}
-use Rattle.std.proofs.lemmas.Bool.{eq-eqb, ne_eqb, cases_eq, cases_lt, lt-ltb, le-ltb, cond-true, cond-false, both_ways, false≢true}
+use Rattle.std.proofs.lemmas.Bool.{eq-eqb, ne_eqb, cases_eq, lt-ltb, le-ltb, cond-true, cond-false, false≢true}
 use Rattle.functions.specs.declared.faults.StoreFault.{StoreFault}
 use Rattle.functions.specs.declared.faults.StoreFault.TheVariants.{NotHeld}
 use Rattle.functions.specs.Tables.{Table, constant}
@@ -16,10 +16,12 @@ use Rattle.table_words.proofs.Words.{same_equal, equal_same}
 use Rattle.table_store.specs.declared.handles.Handle.{Handle}
 use Rattle.table_store.specs.declared.handles.Handle.TheVariants.{Constant, Place}
 use Rattle.table_store.specs.Marks.{mark_of}
-use Rattle.table_store.specs.Handles.{Content, meaning_over, in_use, handle_of}
+use Rattle.table_places.specs.Handles.{Content, meaning_over}
+use Rattle.table_store.specs.Handles.{in_use, handle_of}
 use Rattle.table_store.specs.Places.{width, word_at, words_at, contents}
-use Rattle.table_store.specs.Stores.{LaidOut, PlacesInOrder, SomeWith}
-use Rattle.table_store.specs.Holding.{function_of, under_place, under_at, under_constant}
+use Rattle.table_places.specs.Order.{PlacesInOrder}
+use Rattle.table_store.specs.Stores.{LaidOut, SomeWith}
+use Rattle.table_places.proofs.Holding.{function_of, under_place, under_at, under_constant}
 use Rattle.table_store.proofs.Laid.{width_few, within_words, limit_within, place_free, place_used, used_place, nth_beyond, length_words_at, mark_some}
 
 -- ---- handles

@@ -15,13 +15,14 @@ use Rattle.functions.proofs.Asked.{function_none, function_at, at_function, and_
 use Rattle.functions.proofs.Constants.{part_itself, itself_part, constant_no_part}
 use Rattle.table_words.specs.Words.{unpacked}
 use Rattle.table_store.specs.Marks.{mark_of}
-use Rattle.table_store.specs.Handles.{Content, meaning_over}
+use Rattle.table_places.specs.Handles.{Content, meaning_over}
 use Rattle.table_store.specs.Places.{words_at, word_at, width, contents}
 use Rattle.table_store.specs.Keeping.{inside, KeptMarks}
 use Rattle.table_store.specs.declared.TableStore.{TableStore}
-use Rattle.table_store.specs.Stores.{PlacesInOrder, Varies, LaidOut, InOrder, meaning_of}
+use Rattle.table_places.specs.Order.{PlacesInOrder, Varies}
+use Rattle.table_store.specs.Stores.{LaidOut, InOrder, meaning_of}
 use Rattle.table_store.proofs.Adding.{moved}
-use Rattle.table_store.specs.Holding.{words_of, under_at, Stands, for_constant, for_place, stands, held_words, held_at, at_held, not_constant, places_lawful}
+use Rattle.table_places.proofs.Holding.{words_of, under_at, Stands, for_constant, for_place, stands, held_words, held_at, at_held, not_constant, places_lawful}
 use Rattle.table_store.proofs.Laid.{place_used, used_place, length_contents}
 
 -- ---- listed handles and the parts of their functions

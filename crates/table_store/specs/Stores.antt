@@ -1,15 +1,15 @@
 -- A store of tables: what it means, when it is in order, and how it is made.
-use Rattle.std.specs.Prelude.{◌≡◌, ℕ, ◌+◌, ◌*◌, ◌<◌, ◌≤◌, Bool, cond, ◌&&◌, List, length, Some, None, Ok, Err, vec_items, Option, Result, ◌==◌, ◌≢◌, nat_le, slice_index, slice_set}
+use Rattle.std.specs.Prelude.{◌≡◌, ℕ, ◌+◌, ◌*◌, ◌<◌, ◌≤◌, cond, ◌&&◌, List, length, Some, None, Ok, Err, vec_items, Option, Result, ◌==◌, ◌≢◌, nat_le, slice_index, slice_set}
 use Rattle.std.specs.List.{slice_get}
 use Rattle.functions.specs.declared.faults.StoreFault.{StoreFault}
 use Rattle.functions.specs.declared.faults.StoreFault.TheVariants.{NoSuchStore, NotHeld}
-use Rattle.functions.specs.Tables.{constant}
 use Rattle.functions.specs.Meanings.{Setting, Meaning, under, only_itself, constants_only}
 use Rattle.table_words.specs.declared.PackedTable.{PackedTable}
 use Rattle.table_words.specs.Words.{unpacked, Clean}
+use Rattle.table_places.specs.Handles.{Content, meaning_over}
+use Rattle.table_places.specs.Order.{PlacesInOrder}
 use Rattle.table_store.specs.declared.TableStore.{TableStore}
 use Rattle.table_store.specs.Marks.{mark_of}
-use Rattle.table_store.specs.Handles.{Content, meaning_over}
 use Rattle.table_store.specs.Places.{width, limit_of, words_at, contents}
 
 -- what the places of a store hold
@@ -18,19 +18,6 @@ places_of s = contents s.qubits.number s.limit (vec_items s.words)
 
 abbrev pub meaning_of : TableStore → Meaning
 meaning_of s = meaning_over s.qubits.number s.limit (places_of s)
-
--- the function that some words are is not constant
-unfoldable pub Varies : ℕ → List ℕ → Type 0
-Varies n ws = (b : Bool) → unpacked n ws ≢ constant n b
-
--- Places in order: as many as the limit, each function without bits that are no index's, none of them constant, and no
--- two the same.
-pub record PlacesInOrder (n limit : ℕ) (ps : List Content) : Type 0 where
-  pub many : length ps ≡ limit
-  pub long : (p : ℕ) (ws : List ℕ) → slice_get ps p ≡ Some (Some ws) → length ws ≡ 4
-  pub clean : (p : ℕ) (ws : List ℕ) → slice_get ps p ≡ Some (Some ws) → Clean n ws
-  pub varies : (p : ℕ) (ws : List ℕ) → slice_get ps p ≡ Some (Some ws) → Varies n ws
-  pub apart : (p q : ℕ) (ws : List ℕ) → slice_get ps p ≡ Some (Some ws) → slice_get ps q ≡ Some (Some ws) → p ≡ q
 
 -- Words laid out for places: they suffice, and the mark of a function is made of its words.
 pub record LaidOut (n limit : ℕ) (ws : List ℕ) : Type 0 where

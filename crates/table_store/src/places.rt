@@ -84,9 +84,11 @@ impl TableStore {
     {
         let start = (mark >> 32) as usize;
         let start = start.checked_rem(self.limit).unwrap_or(0);
-        (start..self.limit)
-            .chain(0..start)
-            .find(|place| requires { F.pre passes place.now } { passes(*place) })
+        (start..self.limit).chain(0..start).find(
+            |place|
+                requires { F.pre passes place.now }
+            { passes(*place) },
+        )
     }
 
     // The place of a function.

@@ -2,7 +2,8 @@
 ghost use Rattle.std.specs.Prelude.{Ok};
 ghost use Rattle.functions.specs.Answers.{Made};
 ghost use Rattle.table_words.specs.Words.{unpacked, Clean};
-ghost use Rattle.table_store.specs.Stores.{InOrder, meaning_of, Varies};
+ghost use Rattle.table_places.specs.Order.{Varies};
+ghost use Rattle.table_store.specs.Stores.{InOrder, meaning_of};
 
 use crate::TableStore;
 use crate::marks::Marked;

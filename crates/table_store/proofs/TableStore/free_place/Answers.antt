@@ -1,4 +1,4 @@
-use Rattle.std.proofs.Common.{Some, None, rules, true, false}
+use Rattle.std.proofs.Common.{None, rules}
 use Rattle.table_store.proofs.Looking.{some_found}
 use Rattle.table_store.proofs.TableStore.free_place.Goals as goal
 

@@ -2,7 +2,8 @@ use Rattle.std.proofs.Common.{true, false, Ok, sym, ◌∙◌, subst, rules}
 use Rattle.functions.specs.Answers.{Made}
 use Rattle.table_words.specs.declared.PackedTable.{PackedTable}
 use Rattle.table_words.specs.Words.{unpacked, Clean}
-use Rattle.table_store.specs.Stores.{Varies, meaning_of}
+use Rattle.table_places.specs.Order.{Varies}
+use Rattle.table_store.specs.Stores.{meaning_of}
 use Rattle.table_store.proofs.Adding.{constant_handed, not_constants}
 use Rattle.table_store.proofs.TableStore.handle.Goals as goal
 

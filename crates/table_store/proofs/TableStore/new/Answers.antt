@@ -1,5 +1,4 @@
-use Rattle.std.proofs.Common.{◌≡◌, ℕ, ◌≤◌, List, length, Ok, Err, vec_items, sym, refl, ap, ◌∙◌, subst, arith, rules}
-use Rattle.std.proofs.lemmas.List.{length-take-le}
+use Rattle.std.proofs.Common.{◌≡◌, ℕ, ◌≤◌, length, Ok, Err, vec_items, sym, refl, ap, ◌∙◌, subst, arith}
 use Rattle.table_store.specs.Places.{limit_of}
 use Rattle.table_store.specs.Stores.{store_check}
 use Rattle.table_store.proofs.Fresh.{cleared, passed_range, limit_below, store_refused, store_made}

@@ -1,4 +1,4 @@
-use Rattle.std.proofs.Common.{Some, None, rules, true, false}
+use Rattle.std.proofs.Common.{Some, rules}
 use Rattle.table_store.proofs.Looking.{some_found}
 use Rattle.table_store.proofs.TableStore.place_of.Goals as goal
 

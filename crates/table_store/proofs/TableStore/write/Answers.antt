@@ -1,4 +1,4 @@
-use Rattle.std.proofs.Common.{vec_items, sym, refl, arith, rules}
+use Rattle.std.proofs.Common.{vec_items, refl, rules}
 use Rattle.table_store.proofs.Laid.{written_part}
 use Rattle.table_store.proofs.TableStore.write.Goals as goal
 

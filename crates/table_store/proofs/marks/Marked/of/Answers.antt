@@ -9,9 +9,9 @@ invariant_of-result c =
     let ws = c.args.table.words in
     record {
       right =
-        ap (λ (m : ℕ). bit_or m 1)
-        (c.mixed-mark.ensures
-        ∙ ap (λ (m : ℕ). mixed m (get_or ws 3 0)) (c.mixed-3.ensures
-        ∙ ap (λ (m : ℕ). mixed m (get_or ws 2 0)) (c.mixed-2.ensures
-        ∙ ap (λ (m : ℕ). mixed m (get_or ws 1 0)) c.mixed.ensures)));
+          ap (λ (m : ℕ). bit_or m 1)
+          (c.mixed-mark.ensures
+          ∙ ap (λ (m : ℕ). mixed m (get_or ws 3 0)) (c.mixed-3.ensures
+          ∙ ap (λ (m : ℕ). mixed m (get_or ws 2 0)) (c.mixed-2.ensures
+          ∙ ap (λ (m : ℕ). mixed m (get_or ws 1 0)) c.mixed.ensures)));
     }

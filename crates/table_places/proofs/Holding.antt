@@ -1,4 +1,4 @@
--- What a store over places holds, and its laws. These are lemmas and no definitions: the law of an impl can cite only specs/.
+-- What a store over places holds, and its laws.
 use Rattle.std.specs.Prelude.{◌≡◌, ℕ, zero, suc, ◌+◌, ◌-◌, ◌^◌, ◌<◌, ◌≤◌, Bool, true, false, cond, ◌⊎◌, List, [], ◌∷◌, map, length, Some, None, Option, ◌==◌, ◌≢◌, refl}
 use native.Mathlib.Omega.{arith}
 use Rattle.std.proofs.Math.Path.{sym, ap}
@@ -15,8 +15,8 @@ use Rattle.functions.proofs.Handles.{under_0, under_1}
 use Rattle.functions.proofs.Constants.{constants_apart, part_itself, simplest_lawful}
 use Rattle.table_words.specs.Words.{unpacked}
 use Rattle.table_words.proofs.Words.{length_unpacked, unpacked_once}
-use Rattle.table_store.specs.Handles.{Content, entries_from, meaning_over}
-use Rattle.table_store.specs.Stores.{PlacesInOrder, Varies}
+use Rattle.table_places.specs.Handles.{Content, entries_from, meaning_over}
+use Rattle.table_places.specs.Order.{PlacesInOrder, Varies}
 
 pub none_is_some : {X : Type 0} (x : X) → None ≢ Some x
 none_is_some x e = let z : ◌≡◌ {A = ℕ} 0 1 = cc in omega arith
