@@ -1,15 +1,15 @@
 //! A memory of combinations, over any function store.
 #![tactic(auto)]
 
-ghost use Rattle.std.specs.Prelude.{◌≡◌, []};
+ghost use Rattle.std.specs.Prelude.{◌≡◌, ℕ, [], Some, Ok};
 ghost use Rattle.functions.specs.Answers.{Made, Kept, literal_asked, fixed_asked, combine_asked};
+ghost use Rattle.memory.specs.Recalling.{newest_first, recalled};
 ghost use Rattle.memory.specs.Remembering.{OrderedOver, Remembers, CombinedOver, KeptOver};
 
 use exact::Qubit;
-use functions::{FunctionStore, StoreFault};
+use functions::{Combination, FunctionStore, StoreFault};
 
 mod entry;
-mod recalling;
 mod recent;
 
 pub use entry::Remembered;
@@ -34,68 +34,18 @@ impl<S: FunctionStore> Memory<S> {
         Memory { store, recent }
     }
 
-    /// Passes the call on.
-    pub fn literal(&mut self, q: Qubit) -> Result<u32, StoreFault>
+    // The answer that is remembered, else that of the store below.
+    fn answer(&mut self, asked: Combination) -> Result<u32, StoreFault>
         requires { OrderedOver S.meaning S.ordered self.old }
         ensures order { OrderedOver S.meaning S.ordered self.new }
-        ensures made { Made (S.meaning self.old.store) (S.meaning self.new.store) (literal_asked (S.meaning self.old.store) q) result }
+        ensures made { Made (S.meaning self.old.store) (S.meaning self.new.store) (combine_asked (S.meaning self.old.store) asked.rule asked.f asked.g asked.h) result }
         ensures memory { self.new.recent ≡ self.old.recent }
+        ensures recalls { (answer : ℕ) → recalled (newest_first self.old.recent) asked ≡ Some answer → (result ≡ Ok answer) × (self.new.store ≡ self.old.store) }
     {
-        self.store.literal(q)
-    }
-
-    /// Passes the call on.
-    pub fn fixed(&mut self, f: u32, q: Qubit, bit: bool) -> Result<u32, StoreFault>
-        requires { OrderedOver S.meaning S.ordered self.old }
-        ensures order { OrderedOver S.meaning S.ordered self.new }
-        ensures made { Made (S.meaning self.old.store) (S.meaning self.new.store) (fixed_asked (S.meaning self.old.store) f q bit) result }
-        ensures memory { self.new.recent ≡ self.old.recent }
-    {
-        self.store.fixed(f, q, bit)
-    }
-
-    /// Answers a combination that is remembered, asks the store below for any other, and remembers it if it is accepted.
-    pub fn combine(&mut self, rule: u8, f: u32, g: u32, h: u32) -> Result<u32, StoreFault>
-        requires { OrderedOver S.meaning S.ordered self.old }
-        ensures order { OrderedOver S.meaning S.ordered self.new }
-        ensures made { Made (S.meaning self.old.store) (S.meaning self.new.store) (combine_asked (S.meaning self.old.store) rule f g h) result }
-        ensures memory { CombinedOver self.old self.new rule f g h result }
-    {
-        match self.recent.recall(rule, f, g, h) {
-            Some(answer) => {
-                self.recent.remember(Remembered {
-                    rule,
-                    f,
-                    g,
-                    h,
-                    answer,
-                });
-                Ok(answer)
-            }
-            None => {
-                let answer = self.store.combine(rule, f, g, h)?;
-                self.recent.remember(Remembered {
-                    rule,
-                    f,
-                    g,
-                    h,
-                    answer,
-                });
-                Ok(answer)
-            }
+        match self.recent.recall(asked) {
+            Some(answer) => Ok(answer),
+            None => self.store.combine(asked.rule, asked.f, asked.g, asked.h),
         }
-    }
-
-    /// Passes a keep on, and forgets everything if it is accepted: a handle let go may come to stand for another function.
-    pub fn keep(&mut self, list: &[u32]) -> Result<(), StoreFault>
-        requires { OrderedOver S.meaning S.ordered self.old }
-        ensures order { OrderedOver S.meaning S.ordered self.new }
-        ensures kept { Kept (S.meaning self.old.store) (S.meaning self.new.store) list.now result }
-        ensures memory { KeptOver self.old self.new result }
-    {
-        self.store.keep(list)?;
-        self.recent.clear();
-        Ok(())
     }
 }
 
@@ -106,16 +56,40 @@ impl<S: FunctionStore> FunctionStore for Memory<S> {
 
     ghost lawful = { λ s h. S.FunctionStore.lawful s.store h.below };
 
-    fn literal(&mut self, q: Qubit) -> Result<u32, StoreFault> {
-        Memory::literal(self, q)
+    /// Passes the call on.
+    fn literal(&mut self, q: Qubit) -> Result<u32, StoreFault>
+        requires { OrderedOver S.meaning S.ordered self.old }
+        ensures order { OrderedOver S.meaning S.ordered self.new }
+        ensures made { Made (S.meaning self.old.store) (S.meaning self.new.store) (literal_asked (S.meaning self.old.store) q) result }
+        ensures memory { self.new.recent ≡ self.old.recent }
+    {
+        self.store.literal(q)
     }
 
-    fn fixed(&mut self, f: u32, q: Qubit, bit: bool) -> Result<u32, StoreFault> {
-        Memory::fixed(self, f, q, bit)
+    /// Passes the call on.
+    fn fixed(&mut self, f: u32, q: Qubit, bit: bool) -> Result<u32, StoreFault>
+        requires { OrderedOver S.meaning S.ordered self.old }
+        ensures order { OrderedOver S.meaning S.ordered self.new }
+        ensures made { Made (S.meaning self.old.store) (S.meaning self.new.store) (fixed_asked (S.meaning self.old.store) f q bit) result }
+        ensures memory { self.new.recent ≡ self.old.recent }
+    {
+        self.store.fixed(f, q, bit)
     }
 
-    fn combine(&mut self, rule: u8, f: u32, g: u32, h: u32) -> Result<u32, StoreFault> {
-        Memory::combine(self, rule, f, g, h)
+    /// Answers a combination that is remembered, asks the store below for any other, and remembers it if it is accepted.
+    fn combine(&mut self, rule: u8, f: u32, g: u32, h: u32) -> Result<u32, StoreFault>
+        requires { OrderedOver S.meaning S.ordered self.old }
+        ensures order { OrderedOver S.meaning S.ordered self.new }
+        ensures made { Made (S.meaning self.old.store) (S.meaning self.new.store) (combine_asked (S.meaning self.old.store) rule f g h) result }
+        ensures memory { CombinedOver self.old self.new (record { rule = rule; f = f; g = g; h = h }) result }
+    {
+        let combination = Combination { rule, f, g, h };
+        let answer = self.answer(combination)?;
+        self.recent.remember(Remembered {
+            combination,
+            answer,
+        });
+        Ok(answer)
     }
 
     fn value(&self, f: u32, index: u32) -> Result<bool, StoreFault> {
@@ -130,8 +104,16 @@ impl<S: FunctionStore> FunctionStore for Memory<S> {
         self.store.qubits()
     }
 
-    fn keep(&mut self, list: &[u32]) -> Result<(), StoreFault> {
-        Memory::keep(self, list)
+    /// Passes a keep on, and forgets everything if it is accepted: a handle let go may come to stand for another function.
+    fn keep(&mut self, list: &[u32]) -> Result<(), StoreFault>
+        requires { OrderedOver S.meaning S.ordered self.old }
+        ensures order { OrderedOver S.meaning S.ordered self.new }
+        ensures kept { Kept (S.meaning self.old.store) (S.meaning self.new.store) list.now result }
+        ensures memory { KeptOver self.old self.new result }
+    {
+        self.store.keep(list)?;
+        self.recent.clear();
+        Ok(())
     }
 }
 

@@ -160,14 +160,11 @@ fn place(cell: &str) -> anyhow::Result<usize>
 
 // A refusal. A handle is told by its place among those of the call, since its number is the store's own.
 fn refused(rt: &HostRuntime, fault: StoreFault, asked: &[u32]) -> io::Result<()> {
-    let number = fault.number();
-    let value = fault.value();
     if let StoreFault::NotHeld(handle) = fault {
-        for place in 0..asked.len() {
-            if asked[place] == handle {
-                return println!(rt; "refused {number} at {place}");
-            }
+        if let Some(place) = asked.iter().position(|k| *k == handle) {
+            let number = fault.number();
+            return println!(rt; "refused {number} at {place}");
         }
     }
-    println!(rt; "refused {number} {value}")
+    println!(rt; "{fault}")
 }

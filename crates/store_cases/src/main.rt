@@ -54,11 +54,7 @@ fn opened(rt: &HostRuntime, qubits: u32, words: usize) -> anyhow::Result<Cells<M
 {
     match TableStore::check(words, qubits) {
         Ok(()) => println!(rt; "store of {qubits} qubits")?,
-        Err(fault) => {
-            let number = fault.number();
-            let value = fault.value();
-            println!(rt; "refused {number} {value}")?;
-        }
+        Err(fault) => println!(rt; "{fault}")?,
     }
     let words = vec![in rt.alloc(); u64::MAX; words]?;
     Ok(Cells::over(Memory::new(TableStore::new(words, qubits))))

@@ -16,11 +16,12 @@ use Rattle.functions.proofs.Asked.{made_again}
 use Rattle.table_words.specs.declared.PackedTable.{PackedTable}
 use Rattle.table_words.specs.Words.{unpacked, Clean, Packs, same_words}
 use Rattle.table_words.proofs.Words.{unpacked_once, equal_same, same_equal as words-equal}
-use Rattle.table_store.specs.Handles.{Content, meaning_over}
+use Rattle.table_places.specs.Handles.{Content, meaning_over}
 use Rattle.table_store.specs.declared.TableStore.{TableStore}
 use Rattle.table_store.specs.Places.{contents}
-use Rattle.table_store.specs.Stores.{PlacesInOrder, LaidOut, InOrder, Varies, SomeWith, Written, places_of, meaning_of}
-use Rattle.table_store.specs.Holding.{none_is_some, words_of, under_at, under_constant, Stands, for_constant, for_place, stands, stood, held_words, held_at, place_below, not_constant, places_lawful}
+use Rattle.table_places.specs.Order.{PlacesInOrder, Varies}
+use Rattle.table_store.specs.Stores.{LaidOut, InOrder, SomeWith, Written, places_of, meaning_of}
+use Rattle.table_places.proofs.Holding.{none_is_some, words_of, under_at, under_constant, Stands, for_constant, for_place, stands, stood, held_words, held_at, place_below, not_constant, places_lawful}
 
 pub nth_set_same : {X : Type 0} (xs : List X) (i : ℕ) (x y : X) → slice_get xs i ≡ Some y → slice_get (set xs i x) i ≡ Some x
 nth_set_same [] i x y e = absurd (none_is_some y e)
@@ -187,13 +188,13 @@ module _ (n limit : ℕ) (ps : List Content) (some : 1 ≤ n) (few : n ≤ 8) (p
 pub moved : (P : ℕ → ℕ → Type 0) (m n k l : ℕ) → n ≡ m → l ≡ k → P m k → P n l
 moved P m n k l e f h = subst (λ (x : ℕ). P n x) (sym f) (subst (λ (x : ℕ). P x k) (sym e) h)
 
-pub stored : (s r : TableStore) (p : ℕ) (t : List ℕ) → r.qubits ≡ s.qubits → r.limit ≡ s.limit → InOrder s → length t ≡ 4 → Clean s.qubits t → Varies s.qubits t
-    → SomeWith (places_of s) (Some t) s.limit None → SomeWith (places_of s) None s.limit (Some p) → Written s.qubits s.limit p t (vec_items s.words) (vec_items r.words)
-    → InOrder r × Made (meaning_of s) (meaning_of r) (Ok (unpacked s.qubits t)) (Ok (p + 2))
+pub stored : (s r : TableStore) (p : ℕ) (t : List ℕ) → r.qubits.number ≡ s.qubits.number → r.limit ≡ s.limit → InOrder s → length t ≡ 4 → Clean s.qubits.number t → Varies s.qubits.number t
+    → SomeWith (places_of s) (Some t) s.limit None → SomeWith (places_of s) None s.limit (Some p) → Written s.qubits.number s.limit p t (vec_items s.words) (vec_items r.words)
+    → InOrder r × Made (meaning_of s) (meaning_of r) (Ok (unpacked s.qubits.number t)) (Ok (p + 2))
 unfolding SomeWith
 stored s r p t eq el o long clean varies fresh free w =
     let ps = places_of s in
-    let n = s.qubits in
+    let n = s.qubits.number in
     let m = s.limit in
     let none = λ (q : ℕ) (e : slice_get (places_of s) q ≡ Some (Some t)). fresh q (let a : q < length (places_of s) = place_below (places_of s) q (Some t) e in let b : length (places_of s) ≡ s.limit = o.places.many in omega arith) e in
     let x : (LaidOut n m (vec_items r.words) × PlacesInOrder n m (contents n m (vec_items r.words))) × Made (meaning_of s) (meaning_over n m (contents n m (vec_items r.words))) (Ok (unpacked n t)) (Ok (p + 2)) =
@@ -201,26 +202,26 @@ stored s r p t eq el o long clean varies fresh free w =
       (w.marked, added_order n m ps o.laid_out.some_qubits o.laid_out.few_qubits o.laid_out.few_places o.places t long clean varies none p free.1),
       added_made n m ps o.laid_out.some_qubits o.laid_out.few_qubits o.laid_out.few_places o.places t long clean varies none p free.1,
     ) in
-    let y = moved (λ (a b : ℕ). (LaidOut a b (vec_items r.words) × PlacesInOrder a b (contents a b (vec_items r.words))) × Made (meaning_of s) (meaning_over a b (contents a b (vec_items r.words))) (Ok (unpacked n t)) (Ok (p + 2))) n r.qubits m r.limit eq el x in
+    let y = moved (λ (a b : ℕ). (LaidOut a b (vec_items r.words) × PlacesInOrder a b (contents a b (vec_items r.words))) × Made (meaning_of s) (meaning_over a b (contents a b (vec_items r.words))) (Ok (unpacked n t)) (Ok (p + 2))) n r.qubits.number m r.limit eq el x in
     (record { laid_out = y.0.0; places = y.0.1 }, y.1)
 
-pub stored_nowhere : (s : TableStore) (t : List ℕ) → InOrder s → length t ≡ 4 → Clean s.qubits t → Varies s.qubits t → SomeWith (places_of s) (Some t) s.limit None → SomeWith (places_of s) None s.limit None
-    → Made (meaning_of s) (meaning_of s) (Ok (unpacked s.qubits t)) (Err (NoSpace s.limit))
+pub stored_nowhere : (s : TableStore) (t : List ℕ) → InOrder s → length t ≡ 4 → Clean s.qubits.number t → Varies s.qubits.number t → SomeWith (places_of s) (Some t) s.limit None → SomeWith (places_of s) None s.limit None
+    → Made (meaning_of s) (meaning_of s) (Ok (unpacked s.qubits.number t)) (Err (NoSpace s.limit))
 unfolding SomeWith
 stored_nowhere s t o long clean varies fresh taken =
-    no_space s.qubits s.limit (places_of s) o.laid_out.some_qubits o.laid_out.few_qubits o.laid_out.few_places o.places t long clean varies
+    no_space s.qubits.number s.limit (places_of s) o.laid_out.some_qubits o.laid_out.few_qubits o.laid_out.few_places o.places t long clean varies
     (λ q e. fresh q (below q (Some t) e) e) (λ q e. taken q (below q None e) e)
   where
     below : (q : ℕ) (x : Content) → slice_get (places_of s) q ≡ Some x → q < s.limit
     below q x e = let a : q < length (places_of s) = place_below (places_of s) q x e in let b : length (places_of s) ≡ s.limit = o.places.many in omega arith
 
-pub stored_already : (s : TableStore) (t : List ℕ) (p : ℕ) → InOrder s → SomeWith (places_of s) (Some t) s.limit (Some p) → Made (meaning_of s) (meaning_of s) (Ok (unpacked s.qubits t)) (Ok (p + 2))
+pub stored_already : (s : TableStore) (t : List ℕ) (p : ℕ) → InOrder s → SomeWith (places_of s) (Some t) s.limit (Some p) → Made (meaning_of s) (meaning_of s) (Ok (unpacked s.qubits.number t)) (Ok (p + 2))
 unfolding SomeWith
-stored_already s t p o found = place_again s.qubits s.limit (places_of s) o.laid_out.some_qubits o.laid_out.few_qubits o.laid_out.few_places o.places t p found.1
+stored_already s t p o found = place_again s.qubits.number s.limit (places_of s) o.laid_out.some_qubits o.laid_out.few_qubits o.laid_out.few_places o.places t p found.1
 
 -- ---- constants
-pub constant_handed : (s : TableStore) (t : List ℕ) (b : Bool) (c : PackedTable) → InOrder s → Packs s.qubits (constant s.qubits b) c → length t ≡ 4 → length c.words ≡ 4 → same_words t c.words ≡ true → Made (meaning_of s) (meaning_of s) (Ok (unpacked s.qubits t)) (Ok (cond b 1 0))
-constant_handed s t b c o h l m e = constant_again s.qubits s.limit (places_of s) o.laid_out.some_qubits o.laid_out.few_qubits o.laid_out.few_places o.places t b c h (words-equal t c.words l m e)
+pub constant_handed : (s : TableStore) (t : List ℕ) (b : Bool) (c : PackedTable) → InOrder s → Packs s.qubits.number (constant s.qubits.number b) c → length t ≡ 4 → length c.words ≡ 4 → same_words t c.words ≡ true → Made (meaning_of s) (meaning_of s) (Ok (unpacked s.qubits.number t)) (Ok (cond b 1 0))
+constant_handed s t b c o h l m e = constant_again s.qubits.number s.limit (places_of s) o.laid_out.some_qubits o.laid_out.few_qubits o.laid_out.few_places o.places t b c h (words-equal t c.words l m e)
 
 pub not_constants : (n : ℕ) (t : List ℕ) (c d : PackedTable) → length t ≡ 4 → length c.words ≡ 4 → length d.words ≡ 4 → Clean n t → Packs n (constant n false) c → Packs n (constant n true) d → same_words t c.words ≡ false → same_words t d.words ≡ false → Varies n t
 unfolding Varies

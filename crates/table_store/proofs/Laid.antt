@@ -1,18 +1,19 @@
 -- How functions lie among the words.
-use Rattle.std.proofs.Common.{◌≡◌, ℕ, zero, suc, ◌+◌, ◌-◌, ◌*◌, ◌^◌, ◌<◌, ◌≤◌, min, cond, eqb, ltb, List, [], ◌∷◌, length, get_or, set, Some, None, sym, refl, ap, ◌∙◌, subst, ap₂, ⊎_elim, mul_comm, add-mul, mul-le-mul_left, one-mul, mul-suc, arith, pow_mono}
+use Rattle.std.proofs.Common.{◌≡◌, ℕ, zero, suc, ◌+◌, ◌-◌, ◌*◌, ◌^◌, ◌<◌, ◌≤◌, min, cond, eqb, ltb, List, [], ◌∷◌, ◌++◌, length, get_or, set, take, drop, Some, None, sym, refl, ap, ◌∙◌, subst, ap₂, ⊎_elim, mul_comm, add-mul, mul-le-mul_left, one-mul, mul-suc, arith, pow_mono}
+use borrow.Rule.Slice.PartMut.{put_mid, post_of}
 use lib.Bits.{bit_and, bit_or, or_add_and}
 use Rattle.std.specs.List.{slice_get}
 use Rattle.std.proofs.lemmas.Nat.{and_le_l}
 use Rattle.std.proofs.lemmas.List.FromFn.{length-map-range_with_len, get_or-map-range_with_len}
-use Rattle.std.proofs.lemmas.List.{ext_get_or, get_or-set_same, get_or-set_other, length-set}
+use Rattle.std.proofs.lemmas.List.{append-nil, take_all, drop_all, ext_get_or, get_or-set_same, get_or-set_other, length-set, length-take-le, length-drop, length-append, get_or-take, get_or-drop, get_or_append_left, get_or-append_right}
 use Rattle.std.proofs.lemmas.Option.{slice_get-get_or, slice_get_past}
 use Rattle.std.proofs.lemmas.Bool.{eq-eqb, ne_eqb, cases_eq, cases_lt, lt-ltb, le-ltb, cond-true, cond-false}
 use Rattle.table_words.specs.Words.{Clean}
 use Rattle.table_store.specs.Marks.{mixed, mark_of}
-use Rattle.table_store.specs.Handles.{Content}
+use Rattle.table_places.specs.Handles.{Content}
 use Rattle.table_store.specs.Places.{width, word_at, words_at, content, contents}
 use Rattle.table_store.specs.Stores.{LaidOut, Written}
-use Rattle.table_store.specs.Holding.{none_is_some}
+use Rattle.table_places.proofs.Holding.{none_is_some}
 
 -- ---- widths and places
 pub width_few : (n : ℕ) → n ≤ 8 → width n ≤ 4
@@ -111,25 +112,101 @@ pub record Writing (ws t : List ℕ) (first p mark : ℕ) (vs : List ℕ) (j : �
   pub done : (i : ℕ) → i < j → get_or vs (first + i) 0 ≡ get_or t i 0
   pub rest : (i : ℕ) → (i ≡ p → ⊥) → ((k : ℕ) → k < j → i ≡ first + k → ⊥) → get_or vs i 0 ≡ get_or ws i 0
 
-pub writing_more : (ws t : List ℕ) (first p mark : ℕ) (vs : List ℕ) (j w : ℕ) → p < first → first + j < length vs → w ≡ get_or t j 0 → Writing ws t first p mark vs j → Writing ws t first p mark (set vs (first + j) w) (j + 1)
-writing_more ws t first p mark vs j w l m e x = record {
-  long = length-set vs (first + j) w ∙ x.long;
-  marked = get_or-set_other vs (first + j) p w 0 (λ (z : p ≡ first + j). (let b : ⊥ = omega arith in b)) ∙ x.marked;
-  done = λ i h. ⊎_elim
-      (λ (z : i ≡ j). ap (λ (k : ℕ). get_or (set vs (first + j) w) (first + k) 0) z ∙ get_or-set_same vs (first + j) w 0 m ∙ e ∙ ap (λ (k : ℕ). get_or t k 0) (sym z))
-      (λ (z : i ≡ j → ⊥). get_or-set_other vs (first + j) (first + i) w 0 (λ (y : first + i ≡ first + j). z (omega arith)) ∙ x.done i (omega arith))
-      (cases_eq i j);
-  rest = λ i h k. get_or-set_other vs (first + j) i w 0 (λ (z : i ≡ first + j). k j (omega arith) z) ∙ x.rest i h (λ a b c. k a (omega arith) c);
-}
+-- a list with a part replaced, element by element
+module _ (a k : ℕ) (xs ys : List ℕ) (l : a + k ≤ length xs) (m : length ys ≡ k) where
+  front_long : length (take a xs) ≡ a
+  front_long = length-take-le a xs (omega arith)
 
--- counted from the words before the mark was written
-pub writing_all : (ws t : List ℕ) (first p mark : ℕ) (vs : List ℕ) (j : ℕ) → Writing (set ws p mark) t first p mark vs j → Writing ws t first p mark vs j
-writing_all ws t first p mark vs j x = record {
-  long = x.long ∙ length-set ws p mark;
-  marked = x.marked;
-  done = x.done;
-  rest = λ i h k. x.rest i h k ∙ get_or-set_other ws p i mark 0 h;
-}
+  put_long : length (put_mid a k xs ys) ≡ length xs
+  put_long =
+      let p : length (take a xs) ≡ a = front_long in
+      simp (length-append, length-drop) (omega arith)
+
+  put_before : (i : ℕ) → i < a → get_or (put_mid a k xs ys) i 0 ≡ get_or xs i 0
+  put_before i h =
+      let p : length (take a xs) ≡ a = front_long in
+      get_or_append_left (take a xs) (ys ++ post_of a k xs) 0 i (omega arith) ∙ get_or-take a xs i 0 h
+
+  put_within : (i : ℕ) → i < k → get_or (put_mid a k xs ys) (a + i) 0 ≡ get_or ys i 0
+  put_within i h =
+      let z : a + i - a ≡ i = omega arith in
+      get_or-append_right (take a xs) (ys ++ post_of a k xs) a (a + i) 0 front_long (omega arith)
+      ∙ ap (λ (j : ℕ). get_or (ys ++ post_of a k xs) j 0) z
+      ∙ get_or_append_left ys (post_of a k xs) 0 i (omega arith)
+
+  put_behind : (i : ℕ) → a + k ≤ i → get_or (put_mid a k xs ys) i 0 ≡ get_or xs i 0
+  put_behind i h =
+      let z : a + (k + (i - a - k)) ≡ i = omega arith in
+      get_or-append_right (take a xs) (ys ++ post_of a k xs) a i 0 front_long (omega arith)
+      ∙ get_or-append_right ys (post_of a k xs) k (i - a) 0 m (omega arith)
+      ∙ get_or-drop k (drop a xs) (i - a - k) 0
+      ∙ get_or-drop a xs (k + (i - a - k)) 0
+      ∙ ap (λ (j : ℕ). get_or xs j 0) z
+
+-- the mark, and then the words as a part of the words of the store
+pub writing : (ws t : List ℕ) (first p mark w : ℕ) (vs : List ℕ) → p < first → w ≤ length t → first + w ≤ length ws → vs ≡ put_mid first w (set ws p mark) (take w t) → Writing ws t first p mark vs w
+writing ws t first p mark w vs a b c e =
+    let many : length (set ws p mark) ≡ length ws = length-set ws p mark in
+    let room : first + w ≤ length (set ws p mark) = omega arith in
+    let part : length (take w t) ≡ w = length-take-le w t b in
+    let at = λ (i : ℕ). ap (λ (us : List ℕ). get_or us i 0) e in
+    record {
+      long = ap length e ∙ put_long first w (set ws p mark) (take w t) room part ∙ many;
+      marked = at p ∙ put_before first w (set ws p mark) (take w t) room part p a ∙ get_or-set_same ws p mark 0 (omega arith);
+      done = λ i l. at (first + i) ∙ put_within first w (set ws p mark) (take w t) room part i l ∙ get_or-take w t i 0 l;
+      rest = λ i d k. at i ∙ ⊎_elim
+          (λ (l : i < first). put_before first w (set ws p mark) (take w t) room part i l)
+          (λ (l : first ≤ i). put_behind first w (set ws p mark) (take w t) room part i (⊎_elim
+          (λ (h : i < first + w). absurd (k (i - first) (omega arith) (omega arith)))
+          (λ (h : first + w ≤ i). h)
+          (cases_lt i (first + w))))
+          (cases_lt i first) ∙ get_or-set_other ws p i mark 0 d;
+    }
+
+-- the words of a place, and 0 past them
+zeros_at : (i : ℕ) → ◌≡◌ {A = ℕ} (get_or (0 ∷ 0 ∷ 0 ∷ 0 ∷ []) i 0) 0
+zeros_at zero = refl
+zeros_at (suc zero) = refl
+zeros_at (suc (suc zero)) = refl
+zeros_at (suc (suc (suc zero))) = refl
+zeros_at (suc (suc (suc (suc i)))) = refl
+
+pub words_read : (n limit p w first end : ℕ) (ws : List ℕ) → w ≡ width n → w ≤ 4 → first ≡ limit + width n * p → end ≡ first + width n → end ≤ length ws → take (end - first) (drop first ws) ++ drop w (0 ∷ 0 ∷ 0 ∷ 0 ∷ []) ≡ words_at n limit ws p
+unfolding words_at word_at
+words_read n limit p w first end ws e few f g long =
+    ext_get_or 0 (take (end - first) (drop first ws) ++ drop w (0 ∷ 0 ∷ 0 ∷ 0 ∷ [])) (words_at n limit ws p) total (λ i l. sym (here i (let t : length (take (end - first) (drop first ws) ++ drop {A = ℕ} w (0 ∷ 0 ∷ 0 ∷ 0 ∷ [])) ≡ 4 = total in omega arith)))
+  where
+    part : length (take (end - first) (drop first ws)) ≡ w
+    part = let d : length (drop first ws) ≡ length ws - first = length-drop first ws in length-take-le (end - first) (drop first ws) (omega arith) ∙ (let q : end - first ≡ w = omega arith in q)
+
+    total : length (take (end - first) (drop first ws) ++ drop w (0 ∷ 0 ∷ 0 ∷ 0 ∷ [])) ≡ 4
+    total =
+        let a : length (take (end - first) (drop first ws)) ≡ w = part in
+        let b : length (drop {A = ℕ} w (0 ∷ 0 ∷ 0 ∷ 0 ∷ [])) ≡ 4 - w = length-drop w (0 ∷ 0 ∷ 0 ∷ 0 ∷ []) in
+        length-append (take (end - first) (drop first ws)) (drop w (0 ∷ 0 ∷ 0 ∷ 0 ∷ [])) ∙ (let q : length (take (end - first) (drop first ws)) + length (drop {A = ℕ} w (0 ∷ 0 ∷ 0 ∷ 0 ∷ [])) ≡ 4 = omega arith in q)
+
+    each : (j : ℕ) → j < 4 → get_or (take (end - first) (drop first ws) ++ drop w (0 ∷ 0 ∷ 0 ∷ 0 ∷ [])) j 0 ≡ word_at n limit ws p j
+    each j l = ⊎_elim
+        (λ (h : j < width n).
+        let a : length (take (end - first) (drop first ws)) ≡ w = part in
+        get_or_append_left (take (end - first) (drop first ws)) (drop w (0 ∷ 0 ∷ 0 ∷ 0 ∷ [])) 0 j (omega arith)
+        ∙ get_or-take (end - first) (drop first ws) j 0 (omega arith)
+        ∙ get_or-drop first ws j 0
+        ∙ ap (λ (k : ℕ). get_or ws (k + j) 0) f
+        ∙ sym (cond-true (ltb j (width n)) _ _ (lt-ltb j (width n) h)))
+        (λ (h : width n ≤ j).
+        get_or-append_right (take (end - first) (drop first ws)) (drop w (0 ∷ 0 ∷ 0 ∷ 0 ∷ [])) w j 0 part (omega arith)
+        ∙ get_or-drop w (0 ∷ 0 ∷ 0 ∷ 0 ∷ []) (j - w) 0
+        ∙ zeros_at (w + (j - w))
+        ∙ sym (cond-false (ltb j (width n)) _ _ (le-ltb j (width n) h)))
+        (cases_lt j (width n))
+
+    here : (i : ℕ) → i < 4 → get_or (words_at n limit ws p) i 0 ≡ get_or (take (end - first) (drop first ws) ++ drop w (0 ∷ 0 ∷ 0 ∷ 0 ∷ [])) i 0
+    here zero l = sym (each 0 l)
+    here (suc zero) l = sym (each 1 l)
+    here (suc (suc zero)) l = sym (each 2 l)
+    here (suc (suc (suc zero))) l = sym (each 3 l)
+    here (suc (suc (suc (suc i)))) l = absurd (omega arith)
 
 module _ (n limit p mark : ℕ) (ws t vs : List ℕ) (o : LaidOut n limit ws) (within : p < limit) (long : length t ≡ 4) (clean : Clean n t) (made : mark ≡ mark_of t) (x : Writing ws t (limit + width n * p) p mark vs (width n)) where
   -- the words written are those of the function: past the width they are 0
@@ -208,3 +285,22 @@ module _ (n limit p mark : ℕ) (ws t vs : List ℕ) (o : LaidOut n limit ws) (w
           ∙ ap₂ (λ (m : ℕ) (us : List ℕ). cond (eqb m 0) None (Some us)) (old_mark q l z) (old_words q l z)
           ∙ sym (get_or-set_other (contents n limit ws) p q (Some t) None z ∙ content_at n limit ws q None l))
           (cases_eq q p)
+
+-- and with the words as the store has them after the copy, where len is how many there are
+pub written_part : (n limit p mark w first end len : ℕ) (ws t us zs vs : List ℕ) → LaidOut n limit ws → p < limit → length t ≡ 4 → Clean n t → mark ≡ mark_of t → w ≡ width n → w ≤ 4 → first ≡ limit + width n * p → end ≡ first + width n → end ≤ length ws
+    → us ≡ take w t → zs ≡ set ws p mark → len ≡ length ws → vs ≡ take len (put_mid first (end - first) zs us ++ drop (length (put_mid first (end - first) zs us)) (set ws p mark)) → Written n limit p t ws vs
+written_part n limit p mark w first end len ws t us zs vs o l long clean made ew few ef ee fits eu ez el ev =
+    let many : length (set ws p mark) ≡ length ws = length-set ws p mark in
+    let part : length (take w t) ≡ w = length-take-le w t (omega arith) in
+    let wide : end - first ≡ w = omega arith in
+    let same : put_mid first (end - first) zs us ≡ put_mid first w (set ws p mark) (take w t) =
+    ap (λ (k : ℕ). put_mid first k zs us) wide ∙ ap₂ (λ (xs ys : List ℕ). put_mid first w xs ys) ez eu in
+    let whole : length (put_mid first (end - first) zs us) ≡ length ws = ap length same ∙ put_long first w (set ws p mark) (take w t) (omega arith) part ∙ many in
+    let rest : drop (length (put_mid first (end - first) zs us)) (set ws p mark) ≡ [] = drop_all (length (put_mid first (end - first) zs us)) (set ws p mark) (omega arith) in
+    let all : vs ≡ put_mid first w (set ws p mark) (take w t) =
+    ev
+    ∙ ap (take len) (ap (λ (xs : List ℕ). put_mid first (end - first) zs us ++ xs) rest ∙ append-nil (put_mid first (end - first) zs us))
+    ∙ take_all len (put_mid first (end - first) zs us) (omega arith)
+    ∙ same in
+    written n limit p mark ws t vs o l long clean made
+    (subst (λ (k : ℕ). Writing ws t k p mark vs (width n)) ef (subst (λ (k : ℕ). Writing ws t first p mark vs k) ew (writing ws t first p mark w vs (omega arith) (omega arith) (omega arith) all)))

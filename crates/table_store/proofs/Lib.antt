@@ -4,3 +4,4 @@ mod Laid
 mod Asking
 mod Looking
 mod Fresh
+pub mod Around

@@ -1,9 +1,11 @@
 -- What is looked up: handles, words of places, functions at places.
 use Rattle.std.proofs.Common.{◌≡◌, ℕ, zero, suc, ◌+◌, ◌-◌, ◌*◌, ◌<◌, ◌≤◌, Bool, true, false, cond, eqb, ltb, List, length, get_or, Some, None, Ok, Err, Option, Result, sym, refl, ap, ◌∙◌, subst, ⊎_elim, arith}
 use Rattle.std.specs.List.{slice_get}
+use Rattle.std.specs.Prelude.{IsTrue, ◌↔◌}
+use Rattle.std.specs.Option.{MatchOption}
 use Rattle.std.proofs.lemmas.Nat.{mul-le}
 use Rattle.std.proofs.lemmas.List.{get_or_read}
-use Rattle.std.proofs.lemmas.Bool.{eq-eqb, ne_eqb, cases_eq, cases_lt, lt-ltb, le-ltb, cond-true, cond-false, both_ways}
+use Rattle.std.proofs.lemmas.Bool.{eq-eqb, ne_eqb, cases_eq, lt-ltb, le-ltb, cond-true, cond-false, false≢true}
 use Rattle.functions.specs.declared.faults.StoreFault.{StoreFault}
 use Rattle.functions.specs.declared.faults.StoreFault.TheVariants.{NotHeld}
 use Rattle.functions.specs.Tables.{Table, constant}
@@ -14,10 +16,12 @@ use Rattle.table_words.proofs.Words.{same_equal, equal_same}
 use Rattle.table_store.specs.declared.handles.Handle.{Handle}
 use Rattle.table_store.specs.declared.handles.Handle.TheVariants.{Constant, Place}
 use Rattle.table_store.specs.Marks.{mark_of}
-use Rattle.table_store.specs.Handles.{Content, meaning_over, in_use, handle_of}
+use Rattle.table_places.specs.Handles.{Content, meaning_over}
+use Rattle.table_store.specs.Handles.{in_use, handle_of}
 use Rattle.table_store.specs.Places.{width, word_at, words_at, contents}
-use Rattle.table_store.specs.Stores.{LaidOut, PlacesInOrder, FirstWith, SomeWith}
-use Rattle.table_store.specs.Holding.{function_of, under_place, under_at, under_constant}
+use Rattle.table_places.specs.Order.{PlacesInOrder}
+use Rattle.table_store.specs.Stores.{LaidOut, SomeWith}
+use Rattle.table_places.proofs.Holding.{function_of, under_place, under_at, under_constant}
 use Rattle.table_store.proofs.Laid.{width_few, within_words, limit_within, place_free, place_used, used_place, nth_beyond, length_words_at, mark_some}
 
 -- ---- handles
@@ -148,39 +152,30 @@ free_place_mark n limit ws p l e = ⊎_elim
     (λ (z : get_or ws p 0 ≡ 0 → ⊥). absurd (let q : Some (Some (words_at n limit ws p)) ≡ Some None = sym (place_used n limit ws p l z) ∙ e in let u : ◌≡◌ {A = ℕ} 0 1 = cc in let b : ⊥ = omega arith in b))
     (cases_eq (get_or ws p 0) 0)
 
--- ---- from a place on, and then before it
-pub found_some : (ps : List Content) (x : Content) (from to limit p : ℕ) → to ≤ limit → FirstWith ps x from to (Some p) → SomeWith ps x limit (Some p)
-unfolding FirstWith SomeWith
-found_some ps x from to limit p l h = ((let a : p < to = h.below in omega arith), h.holds)
-
-pub found_none : (ps : List Content) (x : Content) (start limit : ℕ) → FirstWith ps x start limit None → FirstWith ps x 0 start None → SomeWith ps x limit None
-unfolding FirstWith SomeWith
-found_none ps x start limit a b p l e = ⊎_elim (λ (h : p < start). b p (omega arith) h e) (λ (h : start ≤ p). a p h l e) (cases_lt p start)
-
-pub found_before : (ps : List Content) (x : Content) (start limit : ℕ) (r : Option ℕ) → start ≤ limit → FirstWith ps x start limit None → FirstWith ps x 0 start r → SomeWith ps x limit r
-found_before ps x start limit (Some p) l a b = found_some ps x 0 start limit p l b
-found_before ps x start limit None l a b = found_none ps x start limit a b
-
--- ---- places looked at one after another
-none_more : (P : ℕ → Type 0) (from i : ℕ) → ((q : ℕ) → from ≤ q → q < i → P q → ⊥) → (P i → ⊥) → (q : ℕ) → from ≤ q → q < i + 1 → P q → ⊥
-none_more P from i h n q a b e = ⊎_elim (λ (z : q ≡ i). n (subst P z e)) (λ (z : q ≡ i → ⊥). h q a (omega arith) e) (cases_eq q i)
-
-module _ (n limit : ℕ) (ws : List ℕ) (from i x : ℕ) (o : LaidOut n limit ws) (l : i < limit) (read : x ≡ get_or ws i x) where
+-- ---- what a place holds, by its mark x and its words r
+module _ (n limit : ℕ) (ws : List ℕ) (i x : ℕ) (o : LaidOut n limit ws) (l : i < limit) (read : x ≡ get_or ws i x) where
   mark_read : get_or ws i 0 ≡ x
   mark_read = let m : limit ≤ length ws = limit_within n limit ws o in sym (get_or_read ws i x (omega arith) read 0)
 
-  pub free_found : x ≡ 0 → slice_get (contents n limit ws) i ≡ Some None
-  free_found e = place_free n limit ws i l (mark_read ∙ e)
+  pub free_there : x ≡ 0 → slice_get (contents n limit ws) i ≡ Some None
+  free_there e = place_free n limit ws i l (mark_read ∙ e)
 
-  pub free_none_more : (x ≡ 0 → ⊥) → ((q : ℕ) → from ≤ q → q < i → slice_get (contents n limit ws) q ≡ Some None → ⊥) → (q : ℕ) → from ≤ q → q < i + 1 → slice_get (contents n limit ws) q ≡ Some None → ⊥
-  free_none_more d h = none_more (λ (q : ℕ). slice_get (contents n limit ws) q ≡ Some None) from i h (λ e. d (sym mark_read ∙ free_place_mark n limit ws i l e))
+  pub free_mark : slice_get (contents n limit ws) i ≡ Some None → x ≡ 0
+  free_mark e = sym mark_read ∙ free_place_mark n limit ws i l e
 
   module _ (t : List ℕ) (long : length t ≡ 4) (m : ℕ) (mark : m ≡ mark_of t) where
-    pub function_found : (r : List ℕ) → x ≡ m → r ≡ words_at n limit ws i → same_words r t ≡ true → slice_get (contents n limit ws) i ≡ Some (Some t)
-    function_found r e q s = same_place n limit ws t o long i m r l mark (mark_read ∙ e) q s
+    pub function_there : (r : List ℕ) → x ≡ m → r ≡ words_at n limit ws i → same_words r t ≡ true → slice_get (contents n limit ws) i ≡ Some (Some t)
+    function_there r e q s = same_place n limit ws t o long i m r l mark (mark_read ∙ e) q s
 
-    pub other_mark : (x ≡ m → ⊥) → ((q : ℕ) → from ≤ q → q < i → slice_get (contents n limit ws) q ≡ Some (Some t) → ⊥) → (q : ℕ) → from ≤ q → q < i + 1 → slice_get (contents n limit ws) q ≡ Some (Some t) → ⊥
-    other_mark d h = none_more (λ (q : ℕ). slice_get (contents n limit ws) q ≡ Some (Some t)) from i h (λ e. d (sym mark_read ∙ place_mark n limit ws t o long i e ∙ sym mark))
+    pub function_mark : slice_get (contents n limit ws) i ≡ Some (Some t) → x ≡ m
+    function_mark e = sym mark_read ∙ place_mark n limit ws t o long i e ∙ sym mark
 
-    pub other_words : (r : List ℕ) → r ≡ words_at n limit ws i → same_words r t ≡ false → ((q : ℕ) → from ≤ q → q < i → slice_get (contents n limit ws) q ≡ Some (Some t) → ⊥) → (q : ℕ) → from ≤ q → q < i + 1 → slice_get (contents n limit ws) q ≡ Some (Some t) → ⊥
-    other_words r q s h = none_more (λ (q : ℕ). slice_get (contents n limit ws) q ≡ Some (Some t)) from i h (λ e. both_ways (same_words r t) s (place_words n limit ws t o long i r q e))
+    pub function_words : (r : List ℕ) → r ≡ words_at n limit ws i → slice_get (contents n limit ws) i ≡ Some (Some t) → same_words r t ≡ true
+    function_words r q e = place_words n limit ws t o long i r q e
+
+-- what was looked for, place by place
+pub some_found : (ps : List Content) (x : Content) (limit : ℕ) (Fails Passes : ℕ → Type 0) (r : Option ℕ) → MatchOption r ((p : ℕ) → p < limit → Fails p) (λ p. (p < limit) × Passes p)
+    → ((p : ℕ) → p < limit → Fails p → IsTrue false ↔ (slice_get ps p ≡ Some x)) → ((p : ℕ) → p < limit → Passes p → IsTrue true ↔ (slice_get ps p ≡ Some x)) → SomeWith ps x limit r
+unfolding SomeWith
+some_found ps x limit Fails Passes None h fails passes = λ p l e. false≢true ((fails p l (h p l)).1 e)
+some_found ps x limit Fails Passes (Some p) h fails passes = (h.0, (passes p h.0 h.1).0 refl)

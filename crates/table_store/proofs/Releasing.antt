@@ -11,19 +11,19 @@ use Rattle.functions.specs.Sets.{among, parts_of_all}
 use Rattle.functions.specs.Meanings.{Meaning, under, held, Holds, Part, only_itself}
 use Rattle.functions.specs.Answers.{and_then, function_under, functions_under, Shrank}
 use Rattle.functions.proofs.Sets.{among_append}
-use Rattle.functions.proofs.Asked.{function_at, at_function, and_then_inverse}
+use Rattle.functions.proofs.Asked.{function_none, function_at, at_function, and_then_inverse}
 use Rattle.functions.proofs.Constants.{part_itself, itself_part, constant_no_part}
 use Rattle.table_words.specs.Words.{unpacked}
 use Rattle.table_store.specs.Marks.{mark_of}
-use Rattle.table_store.specs.Handles.{Content, meaning_over}
+use Rattle.table_places.specs.Handles.{Content, meaning_over}
 use Rattle.table_store.specs.Places.{words_at, word_at, width, contents}
 use Rattle.table_store.specs.Keeping.{inside, KeptMarks}
 use Rattle.table_store.specs.declared.TableStore.{TableStore}
-use Rattle.table_store.specs.Stores.{PlacesInOrder, Varies, LaidOut, InOrder, meaning_of}
+use Rattle.table_places.specs.Order.{PlacesInOrder, Varies}
+use Rattle.table_store.specs.Stores.{LaidOut, InOrder, meaning_of}
 use Rattle.table_store.proofs.Adding.{moved}
-use Rattle.table_store.specs.Holding.{words_of, under_at, Stands, for_constant, for_place, stands, held_words, held_at, at_held, not_constant, places_lawful}
+use Rattle.table_places.proofs.Holding.{words_of, under_at, Stands, for_constant, for_place, stands, held_words, held_at, at_held, not_constant, places_lawful}
 use Rattle.table_store.proofs.Laid.{place_used, used_place, length_contents}
-use Rattle.table_store.proofs.Asking.{function_none}
 
 -- ---- listed handles and the parts of their functions
 -- the first function of a list, and the rest
@@ -246,10 +246,10 @@ module _ (n limit : ℕ) (flags : List Bool) (ws vs list : List ℕ) (o : LaidOu
   }
 
 -- ---- a store after a keep
-pub released : (s r : TableStore) (flags : List Bool) (list : List ℕ) (fs : List Table) → r.qubits ≡ s.qubits → r.limit ≡ s.limit → InOrder s → KeptMarks s.limit flags (vec_items s.words) (vec_items r.words)
+pub released : (s r : TableStore) (flags : List Bool) (list : List ℕ) (fs : List Table) → r.qubits.number ≡ s.qubits.number → r.limit ≡ s.limit → InOrder s → KeptMarks s.limit flags (vec_items s.words) (vec_items r.words)
     → ((p : ℕ) → p < 4096 → get_or flags p false ≡ inside (p + 2) list) → functions_under (meaning_of s) list ≡ Ok fs → InOrder r × Shrank (meaning_of s) (meaning_of r) fs
 released s r flags list fs eq el o k listed e =
-    let n = s.qubits in
+    let n = s.qubits.number in
     let m = s.limit in
     let ws = vec_items s.words in
     let vs = vec_items r.words in
@@ -258,5 +258,5 @@ released s r flags list fs eq el o k listed e =
     let stays = kept_stays n m flags ws vs list o.laid_out k listed in
     let order = kept_order n m (contents n m ws) (contents n m vs) list o.laid_out.some_qubits o.laid_out.few_qubits o.laid_out.few_places o.places many was stays in
     let shrank = kept_shrank n m (contents n m ws) (contents n m vs) list o.laid_out.some_qubits o.laid_out.few_qubits o.laid_out.few_places o.places many was stays fs e in
-    let y = moved (λ (a b : ℕ). (LaidOut a b (vec_items r.words) × PlacesInOrder a b (contents a b (vec_items r.words))) × Shrank (meaning_of s) (meaning_over a b (contents a b (vec_items r.words))) fs) n r.qubits m r.limit eq el ((kept_laid_out n m flags ws vs list o.laid_out k listed, order), shrank) in
+    let y = moved (λ (a b : ℕ). (LaidOut a b (vec_items r.words) × PlacesInOrder a b (contents a b (vec_items r.words))) × Shrank (meaning_of s) (meaning_over a b (contents a b (vec_items r.words))) fs) n r.qubits.number m r.limit eq el ((kept_laid_out n m flags ws vs list o.laid_out k listed, order), shrank) in
     (record { laid_out = y.0.0; places = y.0.1 }, y.1)

@@ -3,4 +3,3 @@ pub mod Handles
 pub mod Places
 pub mod Stores
 pub mod Keeping
-pub mod Holding

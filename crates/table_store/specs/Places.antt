@@ -2,7 +2,7 @@
 -- of each place.
 use Rattle.std.specs.Prelude.{ℕ, ◌+◌, ◌*◌, ◌/◌, ◌^◌, min, cond, List, [], ◌∷◌, map, Some, None, ◌==◌, nat_lt, slice_index}
 use Rattle.std.specs.List.{range_with_len}
-use Rattle.table_store.specs.Handles.{Content}
+use Rattle.table_places.specs.Handles.{Content}
 
 -- how many words the values of a function of n qubits take, 64 to a word
 unfoldable pub width : ℕ → ℕ

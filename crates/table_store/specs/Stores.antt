@@ -1,36 +1,23 @@
 -- A store of tables: what it means, when it is in order, and how it is made.
-use Rattle.std.specs.Prelude.{◌≡◌, ℕ, ◌+◌, ◌*◌, ◌<◌, ◌≤◌, Bool, cond, ◌&&◌, List, length, Some, None, Ok, Err, vec_items, Option, Result, ◌==◌, ◌≢◌, nat_le, slice_index, slice_set}
+use Rattle.std.specs.Prelude.{◌≡◌, ℕ, ◌+◌, ◌*◌, ◌<◌, ◌≤◌, cond, ◌&&◌, List, length, Some, None, Ok, Err, vec_items, Option, Result, ◌==◌, ◌≢◌, nat_le, slice_index, slice_set}
 use Rattle.std.specs.List.{slice_get}
 use Rattle.functions.specs.declared.faults.StoreFault.{StoreFault}
 use Rattle.functions.specs.declared.faults.StoreFault.TheVariants.{NoSuchStore, NotHeld}
-use Rattle.functions.specs.Tables.{constant}
 use Rattle.functions.specs.Meanings.{Setting, Meaning, under, only_itself, constants_only}
 use Rattle.table_words.specs.declared.PackedTable.{PackedTable}
 use Rattle.table_words.specs.Words.{unpacked, Clean}
+use Rattle.table_places.specs.Handles.{Content, meaning_over}
+use Rattle.table_places.specs.Order.{PlacesInOrder}
 use Rattle.table_store.specs.declared.TableStore.{TableStore}
 use Rattle.table_store.specs.Marks.{mark_of}
-use Rattle.table_store.specs.Handles.{Content, meaning_over}
 use Rattle.table_store.specs.Places.{width, limit_of, words_at, contents}
 
 -- what the places of a store hold
 abbrev pub places_of : TableStore → List Content
-places_of s = contents s.qubits s.limit (vec_items s.words)
+places_of s = contents s.qubits.number s.limit (vec_items s.words)
 
 abbrev pub meaning_of : TableStore → Meaning
-meaning_of s = meaning_over s.qubits s.limit (places_of s)
-
--- the function that some words are is not constant
-unfoldable pub Varies : ℕ → List ℕ → Type 0
-Varies n ws = (b : Bool) → unpacked n ws ≢ constant n b
-
--- Places in order: as many as the limit, each function without bits that are no index's, none of them constant, and no
--- two the same.
-pub record PlacesInOrder (n limit : ℕ) (ps : List Content) : Type 0 where
-  pub many : length ps ≡ limit
-  pub long : (p : ℕ) (ws : List ℕ) → slice_get ps p ≡ Some (Some ws) → length ws ≡ 4
-  pub clean : (p : ℕ) (ws : List ℕ) → slice_get ps p ≡ Some (Some ws) → Clean n ws
-  pub varies : (p : ℕ) (ws : List ℕ) → slice_get ps p ≡ Some (Some ws) → Varies n ws
-  pub apart : (p q : ℕ) (ws : List ℕ) → slice_get ps p ≡ Some (Some ws) → slice_get ps q ≡ Some (Some ws) → p ≡ q
+meaning_of s = meaning_over s.qubits.number s.limit (places_of s)
 
 -- Words laid out for places: they suffice, and the mark of a function is made of its words.
 pub record LaidOut (n limit : ℕ) (ws : List ℕ) : Type 0 where
@@ -41,25 +28,13 @@ pub record LaidOut (n limit : ℕ) (ws : List ℕ) : Type 0 where
   pub marked : (p : ℕ) → p < limit → (slice_index ws p ≢ 0) → slice_index ws p ≡ mark_of (words_at n limit ws p)
 
 pub record InOrder (s : TableStore) : Type 0 where
-  pub laid_out : LaidOut s.qubits s.limit (vec_items s.words)
-  pub places : PlacesInOrder s.qubits s.limit (places_of s)
+  pub laid_out : LaidOut s.qubits.number s.limit (vec_items s.words)
+  pub places : PlacesInOrder s.qubits.number s.limit (places_of s)
 
 -- The words of the function under a handle, or the refusal that none is held under it.
 unfoldable pub TableUnder : TableStore → ℕ → Result PackedTable StoreFault → Type 0
-TableUnder s k (Ok t) = (under (meaning_of s) k ≡ Some (unpacked s.qubits t.words)) × Clean s.qubits t.words
+TableUnder s k (Ok t) = (under (meaning_of s) k ≡ Some (unpacked s.qubits.number t.words)) × Clean s.qubits.number t.words
 TableUnder s k (Err e) = (e ≡ NotHeld k) × (under (meaning_of s) k ≡ None)
-
--- Of the places from one to another, p is the first that holds x.
-pub record FirstPlace (ps : List Content) (x : Content) (from to p : ℕ) : Type 0 where
-  pub above : from ≤ p
-  pub below : p < to
-  pub holds : slice_get ps p ≡ Some x
-  pub first : (q : ℕ) → from ≤ q → q < p → slice_get ps q ≢ Some x
-
--- The first that does, or none.
-unfoldable pub FirstWith : List Content → Content → ℕ → ℕ → Option ℕ → Type 0
-FirstWith ps x from to None = (p : ℕ) → from ≤ p → p < to → slice_get ps p ≢ Some x
-FirstWith ps x from to (Some p) = FirstPlace ps x from to p
 
 -- A place below the limit that holds x, or none.
 unfoldable pub SomeWith : List Content → Content → ℕ → Option ℕ → Type 0

@@ -1,18 +1,29 @@
 //! Making a store.
-ghost use Rattle.std.specs.Prelude.{◌≡◌, ◌≤◌};
+ghost use Rattle.std.specs.Prelude.{◌≡◌, ◌≤◌, ◌++◌, drop, length, replicate};
 ghost use Rattle.table_store.specs.Places.{limit_of};
 ghost use Rattle.table_store.specs.Stores.{store_check, NewStore};
 
 use crate::TableStore;
 use crate::places::width;
+use exact::QubitCount;
 use functions::StoreFault;
 
+// The most functions that a store holds.
+pub(crate) const MOST: usize = 4096;
+
 // How many functions some words hold.
-fn limit(words: usize, qubits: u32) -> usize
-    requires { qubits ≤ 8 }
-    ensures { result ≡ limit_of qubits words }
+fn limit(words: usize, qubits: QubitCount<8>) -> usize
+    ensures { result ≡ limit_of qubits.number words }
 {
-    (words / (width(qubits) + 1)).min(4096)
+    (words / (width(qubits) + 1)).min(MOST)
+}
+
+// Frees the first places.
+fn free(words: &mut [u64], places: usize)
+    requires { places ≤ length words.old }
+    ensures { words.new ≡ replicate places 0 ++ drop places words.old }
+{
+    words[..places].fill(0);
 }
 
 impl TableStore {
@@ -23,7 +34,7 @@ impl TableStore {
         if qubits < 1 || qubits > 8 {
             return Err(StoreFault::NoSuchStore(qubits));
         }
-        if limit(words, qubits) == 0 {
+        if limit(words, QubitCount { number: qubits }) == 0 {
             return Err(StoreFault::NoSuchStore(0));
         }
         Ok(())
@@ -36,10 +47,9 @@ impl TableStore {
     {
         match TableStore::check(words.len(), qubits) {
             Ok(()) => {
+                let qubits = QubitCount { number: qubits };
                 let limit = limit(words.len(), qubits);
-                for place in 0..limit {
-                    words[place] = 0;
-                }
+                free(&mut words, limit);
                 TableStore {
                     qubits,
                     limit,
@@ -47,7 +57,7 @@ impl TableStore {
                 }
             }
             Err(_) => TableStore {
-                qubits: 1,
+                qubits: QubitCount { number: 1 },
                 limit: 0,
                 words,
             },

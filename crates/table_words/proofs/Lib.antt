@@ -4,3 +4,4 @@ mod Counting
 mod Gathering
 mod Settings
 mod Packed
+pub mod Made

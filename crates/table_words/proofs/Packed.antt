@@ -1,43 +1,37 @@
 -- Functions packed into words: constants, literals, fixed functions and combinations.
-use Rattle.std.proofs.Common.{◌≡◌, ℕ, zero, suc, ◌+◌, ◌-◌, ◌*◌, ◌/◌, ◌%◌, ◌^◌, ◌<◌, ◌≤◌, min, Bool, true, false, cond, List, [], ◌∷◌, length, get_or, sym, refl, ap, ◌∙◌, mod-eq_of_lt, arith, length-set, pow_pos, pow_mono}
+use Rattle.std.proofs.Common.{◌≡◌, ℕ, ◌+◌, ◌-◌, ◌*◌, ◌/◌, ◌%◌, ◌^◌, ◌<◌, ◌≤◌, min, Bool, true, false, cond, List, length, get_or, sym, refl, ap, ◌∙◌, ⊎_elim, mod-eq_of_lt, arith, length-set, pow_pos, pow_mono}
 use lib.Bits.{bit_and}
 use Rattle.std.proofs.lemmas.Nat.{and_mask}
 use Rattle.std.proofs.lemmas.List.{get_or_past}
+use Rattle.std.proofs.lemmas.Bool.{cases_lt}
 use Rattle.exact.specs.Indices.{Index, number, bit, with_bit}
 use Rattle.functions.specs.Tables.{value_at, digit, constant, literal, fixed, ruled, combined}
 use Rattle.table_words.specs.declared.PackedTable.{PackedTable}
 use Rattle.table_words.specs.Words.{bit_of, BitsOf, word_bit, unpacked, HasBits, Packs}
 use Rattle.table_words.proofs.Bits.{all_ones, zero_bits, rule_bits}
-use Rattle.table_words.proofs.Words.{unpacked_at, word_bit_split, four_words, cleaned, packs_listing}
+use Rattle.table_words.proofs.Words.{unpacked_at, word_bit_split, bits_of_words, cleaned, packs_listing}
 use Rattle.table_words.proofs.Settings.{index_bit, with_bit_number}
 
--- the same bits, told otherwise
-has_bits_as : (n : ℕ) (p q : ℕ → Bool) (t : PackedTable) → n ≤ 8 → ((i : ℕ) → i < 256 → p i ≡ q i) → HasBits n p t → HasBits n q t
-has_bits_as n p q t few h b = record { values = λ i l. (let m : 2 ^ n ≤ 2 ^ 8 = pow_mono few in b.values i l ∙ h i (omega arith)); clean = b.clean }
+-- four words with the bits of p, cleaned
+pub has_bits : (n : ℕ) (ws : List ℕ) (p : ℕ → Bool) (t : PackedTable) → n ≤ 8 → ((j : ℕ) → j < 4 → BitsOf (get_or ws j 0) (λ i. p (64 * j + i))) → HasBits n (word_bit ws) t → HasBits n p t
+has_bits n ws p t few h b = record { values = λ i l. (let m : 2 ^ n ≤ 2 ^ 8 = pow_mono few in b.values i l ∙ bits_of_words ws p h i (omega arith)); clean = b.clean }
 
-pub four_has_bits : (n a b c d : ℕ) (p : ℕ → Bool) (t : PackedTable) → n ≤ 8 → BitsOf a (λ i. p (0 + i)) → BitsOf b (λ i. p (64 + i)) → BitsOf c (λ i. p (128 + i)) → BitsOf d (λ i. p (192 + i)) → HasBits n (word_bit (a ∷ b ∷ c ∷ d ∷ [])) t → HasBits n p t
-four_has_bits n a b c d p t few ha hb hc hd h = has_bits_as n (word_bit (a ∷ b ∷ c ∷ d ∷ [])) p t few (four_words a b c d p ha hb hc hd) h
-
--- each of four words without the bits that are no index's
-pub four_cleaned : (n : ℕ) (ws : List ℕ) (a b c d : ℕ) → length ws ≡ 4
-    → a ≡ 2 ^ min 64 (2 ^ n - 64 * 0) - 1 → b ≡ 2 ^ min 64 (2 ^ n - 64 * 1) - 1 → c ≡ 2 ^ min 64 (2 ^ n - 64 * 2) - 1 → d ≡ 2 ^ min 64 (2 ^ n - 64 * 3) - 1
-    → HasBits n (word_bit ws) (record { words = bit_and (get_or ws 0 0) a ∷ bit_and (get_or ws 1 0) b ∷ bit_and (get_or ws 2 0) c ∷ bit_and (get_or ws 3 0) d ∷ [] })
-four_cleaned n ws a b c d l ea eb ec ed = cleaned n ws _ go
+-- four words, each without the bits that are no index's
+pub masked : (n : ℕ) (ws vs : List ℕ) → length ws ≡ 4 → length vs ≡ 4 → ((j : ℕ) → j < 4 → get_or vs j 0 ≡ bit_and (get_or ws j 0) (2 ^ min 64 (2 ^ n - 64 * j) - 1)) → HasBits n (word_bit ws) (record { words = vs })
+masked n ws vs l m h = cleaned n ws _ (λ j. ⊎_elim (within j) (past j) (cases_lt j 4))
   where
-    masked : (j m : ℕ) → m ≡ 2 ^ min 64 (2 ^ n - 64 * j) - 1 → bit_and (get_or ws j 0) m ≡ get_or ws j 0 % 2 ^ min 64 (2 ^ n - 64 * j)
-    masked j m e = ap (bit_and (get_or ws j 0)) e ∙ and_mask (get_or ws j 0) (min 64 (2 ^ n - 64 * j))
+    within : (j : ℕ) → j < 4 → get_or vs j 0 ≡ get_or ws j 0 % 2 ^ min 64 (2 ^ n - 64 * j)
+    within j k = h j k ∙ and_mask (get_or ws j 0) (min 64 (2 ^ n - 64 * j))
 
-    go : (j : ℕ) → get_or (bit_and (get_or ws 0 0) a ∷ bit_and (get_or ws 1 0) b ∷ bit_and (get_or ws 2 0) c ∷ bit_and (get_or ws 3 0) d ∷ []) j 0 ≡ get_or ws j 0 % 2 ^ min 64 (2 ^ n - 64 * j)
-    go zero = masked 0 a ea
-    go (suc zero) = masked 1 b eb
-    go (suc (suc zero)) = masked 2 c ec
-    go (suc (suc (suc zero))) = masked 3 d ed
-    go (suc (suc (suc (suc j)))) = sym (ap (λ (w : ℕ). w % 2 ^ min 64 (2 ^ n - 64 * suc (suc (suc (suc j))))) (get_or_past ws (suc (suc (suc (suc j)))) 0 (omega arith)) ∙ mod-eq_of_lt (pow_pos (min 64 (2 ^ n - 64 * suc (suc (suc (suc j)))))))
+    past : (j : ℕ) → 4 ≤ j → get_or vs j 0 ≡ get_or ws j 0 % 2 ^ min 64 (2 ^ n - 64 * j)
+    past j k =
+        get_or_past vs j 0 (omega arith)
+        ∙ sym (ap (λ (w : ℕ). w % 2 ^ min 64 (2 ^ n - 64 * j)) (get_or_past ws j 0 (omega arith)) ∙ mod-eq_of_lt (pow_pos (min 64 (2 ^ n - 64 * j))))
 
 -- a word that is all of one bit
-pub constant_packed : (n w : ℕ) (b : Bool) (t : PackedTable) → n ≤ 8 → BitsOf w (λ i. b) → HasBits n (word_bit (w ∷ w ∷ w ∷ w ∷ [])) t → Packs n (constant n b) t
+pub constant_packed : (n : ℕ) (ws : List ℕ) (b : Bool) (t : PackedTable) → n ≤ 8 → ((j : ℕ) → j < 4 → BitsOf (get_or ws j 0) (λ i. b)) → HasBits n (word_bit ws) t → Packs n (constant n b) t
 unfolding constant
-constant_packed n w b t few h x = packs_listing n (λ i. b) (λ y. b) t (λ y l. refl) (four_has_bits n w w w w (λ i. b) t few h h h h x)
+constant_packed n ws b t few h x = packs_listing n (λ i. b) (λ y. b) t (λ y l. refl) (has_bits n ws (λ i. b) t few h x)
 
 pub ones_word : BitsOf 18446744073709551615 (λ i. true)
 ones_word i l = all_ones 64 i l
@@ -64,16 +58,13 @@ module _ (n rule : ℕ) (fs gs hs : List ℕ) where
       ∙ ap (λ (x : Bool). ruled rule (word_bit fs (64 * j + i)) x (bit_of (get_or hs j 0) i)) (sym (word_bit_split gs j i l))
       ∙ ap (λ (x : Bool). ruled rule (word_bit fs (64 * j + i)) (word_bit gs (64 * j + i)) x) (sym (word_bit_split hs j i l))
 
-  pub combined_packed : (a b c d : ℕ) (t : PackedTable) → n ≤ 8
-      → BitsOf a (λ i. ruled rule (bit_of (get_or fs 0 0) i) (bit_of (get_or gs 0 0) i) (bit_of (get_or hs 0 0) i))
-      → BitsOf b (λ i. ruled rule (bit_of (get_or fs 1 0) i) (bit_of (get_or gs 1 0) i) (bit_of (get_or hs 1 0) i))
-      → BitsOf c (λ i. ruled rule (bit_of (get_or fs 2 0) i) (bit_of (get_or gs 2 0) i) (bit_of (get_or hs 2 0) i))
-      → BitsOf d (λ i. ruled rule (bit_of (get_or fs 3 0) i) (bit_of (get_or gs 3 0) i) (bit_of (get_or hs 3 0) i))
-      → HasBits n (word_bit (a ∷ b ∷ c ∷ d ∷ [])) t → Packs n (combined n rule (unpacked n fs) (unpacked n gs) (unpacked n hs)) t
+  pub combined_packed : (ws : List ℕ) (t : PackedTable) → n ≤ 8
+      → ((j : ℕ) → j < 4 → BitsOf (get_or ws j 0) (λ i. ruled rule (bit_of (get_or fs j 0) i) (bit_of (get_or gs j 0) i) (bit_of (get_or hs j 0) i)))
+      → HasBits n (word_bit ws) t → Packs n (combined n rule (unpacked n fs) (unpacked n gs) (unpacked n hs)) t
   unfolding combined
-  combined_packed a b c d t few ha hb hc hd x =
+  combined_packed ws t few h x =
       packs_listing n (λ i. ruled rule (word_bit fs i) (word_bit gs i) (word_bit hs i)) (λ y. ruled rule (value_at (unpacked n fs) y) (value_at (unpacked n gs) y) (value_at (unpacked n hs) y)) t values
-      (four_has_bits n a b c d (λ i. ruled rule (word_bit fs i) (word_bit gs i) (word_bit hs i)) t few (word_combined 0 a ha) (word_combined 1 b hb) (word_combined 2 c hc) (word_combined 3 d hd) x)
+      (has_bits n ws (λ i. ruled rule (word_bit fs i) (word_bit gs i) (word_bit hs i)) t few (λ j k. word_combined j (get_or ws j 0) (h j k)) x)
     where
       values : (y : Index) → length y ≡ n → ruled rule (word_bit fs (number y)) (word_bit gs (number y)) (word_bit hs (number y)) ≡ ruled rule (value_at (unpacked n fs) y) (value_at (unpacked n gs) y) (value_at (unpacked n hs) y)
       values y l =

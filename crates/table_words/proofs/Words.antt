@@ -1,5 +1,5 @@
 -- Rows of words.
-use Rattle.std.proofs.Common.{◌≡◌, ℕ, zero, suc, ◌+◌, ◌-◌, ◌*◌, ◌/◌, ◌%◌, ◌^◌, ◌<◌, ◌≤◌, min, Bool, true, false, eqb, List, [], ◌∷◌, length, get_or, sym, refl, ap, ◌∙◌, subst, ap₂, ⊎_elim, arith, pow_pos, pow_mono}
+use Rattle.std.proofs.Common.{◌≡◌, ℕ, zero, suc, ◌+◌, ◌-◌, ◌*◌, ◌/◌, ◌%◌, ◌^◌, ◌<◌, ◌≤◌, min, Bool, true, false, eqb, List, ◌∷◌, length, get_or, sym, ap, ◌∙◌, subst, ap₂, ⊎_elim, arith, pow_pos, pow_mono}
 use Rattle.std.proofs.lemmas.Nat.{mod_below}
 use Rattle.std.proofs.lemmas.List.{ext_get_or, get_or_past}
 use Rattle.std.proofs.lemmas.Bool.{cases_lt, and_parts, and_from, eqb-true, eq-eqb}
@@ -27,6 +27,21 @@ word_bit_split us j i m =
     let q : (64 * j + i) % 64 ≡ i = omega arith in
     ap₂ (λ (a b : ℕ). bit_of (get_or us a 0) b) p q
 
+-- the bits of the first word, and those of the others
+pub word_bit_first : (w : ℕ) (ws : List ℕ) (i : ℕ) → i < 64 → word_bit (w ∷ ws) (0 + i) ≡ bit_of w (0 + i)
+unfolding word_bit
+word_bit_first w ws i l =
+    let p : (0 + i) / 64 ≡ 0 = omega arith in
+    let q : (0 + i) % 64 ≡ 0 + i = omega arith in
+    ap₂ (λ (a b : ℕ). bit_of (get_or (w ∷ ws) a 0) b) p q
+
+pub word_bit_rest : (w : ℕ) (ws : List ℕ) (i : ℕ) → word_bit (w ∷ ws) (64 + i) ≡ word_bit ws (0 + i)
+unfolding word_bit
+word_bit_rest w ws i =
+    let p : (64 + i) / 64 ≡ suc ((0 + i) / 64) = omega arith in
+    let q : (64 + i) % 64 ≡ (0 + i) % 64 = omega arith in
+    ap₂ (λ (a b : ℕ). bit_of (get_or (w ∷ ws) a 0) b) p q
+
 -- words past the last are 0
 pub word_bit_past : (ws : List ℕ) (i : ℕ) → 64 * length ws ≤ i → word_bit ws i ≡ false
 unfolding word_bit
@@ -35,16 +50,11 @@ word_bit_past ws i l =
     ∙ high_bits 0 0 (i % 64) (omega arith) (omega arith)
 
 -- four words, each with its 64 bits
-pub four_words : (a b c d : ℕ) (p : ℕ → Bool) → BitsOf a (λ i. p (0 + i)) → BitsOf b (λ i. p (64 + i)) → BitsOf c (λ i. p (128 + i)) → BitsOf d (λ i. p (192 + i)) → (i : ℕ) → i < 256 → word_bit (a ∷ b ∷ c ∷ d ∷ []) i ≡ p i
+pub bits_of_words : (ws : List ℕ) (p : ℕ → Bool) → ((j : ℕ) → j < 4 → BitsOf (get_or ws j 0) (λ i. p (64 * j + i))) → (i : ℕ) → i < 256 → word_bit ws i ≡ p i
 unfolding word_bit
-four_words a b c d p ha hb hc hd i l = go (i / 64) refl
-  where
-    go : (j : ℕ) → i / 64 ≡ j → bit_of (get_or (a ∷ b ∷ c ∷ d ∷ []) (i / 64) 0) (i % 64) ≡ p i
-    go zero e = let q : 0 + i % 64 ≡ i = omega arith in ap (λ (j : ℕ). bit_of (get_or (a ∷ b ∷ c ∷ d ∷ []) j 0) (i % 64)) e ∙ ha (i % 64) (omega arith) ∙ ap p q
-    go (suc zero) e = let q : 64 + i % 64 ≡ i = omega arith in ap (λ (j : ℕ). bit_of (get_or (a ∷ b ∷ c ∷ d ∷ []) j 0) (i % 64)) e ∙ hb (i % 64) (omega arith) ∙ ap p q
-    go (suc (suc zero)) e = let q : 128 + i % 64 ≡ i = omega arith in ap (λ (j : ℕ). bit_of (get_or (a ∷ b ∷ c ∷ d ∷ []) j 0) (i % 64)) e ∙ hc (i % 64) (omega arith) ∙ ap p q
-    go (suc (suc (suc zero))) e = let q : 192 + i % 64 ≡ i = omega arith in ap (λ (j : ℕ). bit_of (get_or (a ∷ b ∷ c ∷ d ∷ []) j 0) (i % 64)) e ∙ hd (i % 64) (omega arith) ∙ ap p q
-    go (suc (suc (suc (suc j)))) e = absurd (omega arith)
+bits_of_words ws p h i l =
+    let e : 64 * (i / 64) + i % 64 ≡ i = omega arith in
+    h (i / 64) (omega arith) (i % 64) (omega arith) ∙ ap p e
 
 -- the words without the bits that are no index's
 pub cleaned : (n : ℕ) (ws : List ℕ) (t : PackedTable) → ((j : ℕ) → get_or t.words j 0 ≡ get_or ws j 0 % 2 ^ min 64 (2 ^ n - 64 * j)) → HasBits n (word_bit ws) t
@@ -61,6 +71,15 @@ pub clean_above : (n : ℕ) (ws : List ℕ) (i : ℕ) → Clean n ws → 2 ^ n �
 unfolding word_bit Clean
 clean_above n ws i c l = high_bits (get_or ws (i / 64) 0) (min 64 (2 ^ n - 64 * (i / 64))) (i % 64) (c (i / 64)) (omega arith)
 
+-- and a word is one
+pub clean_small : (n : ℕ) (ws : List ℕ) → Clean n ws → (j : ℕ) → get_or ws j 0 < 2 ^ 64
+unfolding Clean
+clean_small n ws c j =
+    let u : get_or ws j 0 < 2 ^ min 64 (2 ^ n - 64 * j) = c j in
+    let s : min 64 (2 ^ n - 64 * j) ≤ 64 = omega arith in
+    let m : 2 ^ min 64 (2 ^ n - 64 * j) ≤ 2 ^ 64 = pow_mono s in
+    omega arith
+
 -- bits that are a function's values
 pub packs_listing : (n : ℕ) (p : ℕ → Bool) (f : Index → Bool) (t : PackedTable) → ((x : Index) → length x ≡ n → p (number x) ≡ f x) → HasBits n p t → Packs n (listing n f) t
 unfolding unpacked
@@ -72,15 +91,8 @@ packs_listing n p f t h b = record {
 -- the words of a function are determined
 pub unpacked_once : (n : ℕ) (ws vs : List ℕ) → length ws ≡ length vs → Clean n ws → Clean n vs → unpacked n ws ≡ unpacked n vs → ws ≡ vs
 unfolding Clean
-unpacked_once n ws vs l a b e = ext_get_or 0 ws vs l (λ j k. same_bits 64 (get_or ws j 0) (get_or vs j 0) (below ws a j) (below vs b j) (λ i m. bit j i m))
+unpacked_once n ws vs l a b e = ext_get_or 0 ws vs l (λ j k. same_bits 64 (get_or ws j 0) (get_or vs j 0) (clean_small n ws a j) (clean_small n vs b j) (λ i m. bit j i m))
   where
-    below : (us : List ℕ) → ((j : ℕ) → get_or us j 0 < 2 ^ min 64 (2 ^ n - 64 * j)) → (j : ℕ) → get_or us j 0 < 2 ^ 64
-    below us c j =
-        let u : get_or us j 0 < 2 ^ min 64 (2 ^ n - 64 * j) = c j in
-        let s : min 64 (2 ^ n - 64 * j) ≤ 64 = omega arith in
-        let m : 2 ^ min 64 (2 ^ n - 64 * j) ≤ 2 ^ 64 = pow_mono s in
-        omega arith
-
     same_values : (i : ℕ) → i < 2 ^ n → word_bit ws i ≡ word_bit vs i
     same_values i m =
         ap (word_bit ws) (sym (number_of_bits n i m))

@@ -4,6 +4,8 @@ ghost use Rattle.functions.specs.Tables.{ruled, combined};
 ghost use Rattle.table_words.specs.Words.{bit_of, BitsOf, unpacked, Packs};
 
 use crate::PackedTable;
+use exact::QubitCount;
+use std::array;
 
 // At each bit: a where s is 1, else b.
 fn choice(s: u64, a: u64, b: u64) -> u64
@@ -41,24 +43,15 @@ fn combined_word(rule: u8, f: u64, g: u64, h: u64) -> u64
 impl PackedTable {
     /// At each index the bit of the rule numbered 4f + 2g + h.
     pub fn combined(
-        qubits: u32,
+        qubits: QubitCount<8>,
         rule: u8,
         f: PackedTable,
         g: PackedTable,
         h: PackedTable,
     ) -> PackedTable
-        requires { qubits ≤ 8 }
-        ensures { Packs qubits (combined qubits rule (unpacked qubits f.words) (unpacked qubits g.words) (unpacked qubits h.words)) result }
+        ensures { Packs qubits.number (combined qubits.number rule (unpacked qubits.number f.words) (unpacked qubits.number g.words) (unpacked qubits.number h.words)) result }
     {
-        let [f0, f1, f2, f3] = f.words;
-        let [g0, g1, g2, g3] = g.words;
-        let [h0, h1, h2, h3] = h.words;
-        let words = [
-            combined_word(rule, f0, g0, h0),
-            combined_word(rule, f1, g1, h1),
-            combined_word(rule, f2, g2, h2),
-            combined_word(rule, f3, g3, h3),
-        ];
+        let words = array::from_fn(|j| combined_word(rule, f.words[j], g.words[j], h.words[j]));
         PackedTable::clean(qubits, words)
     }
 }

@@ -9,7 +9,7 @@ mod patterns;
 ///
 /// The value at an index is the bit of that number, counted from the lowest bit of the first word. Bits that are no
 /// index's are 0.
-#[derive(Clone, Copy)]
+#[derive(Clone, Copy, PartialEq, Eq)]
 pub struct PackedTable {
     pub words: [u64; 4],
 }

@@ -4,7 +4,8 @@ ghost use Rattle.functions.specs.Tables.{digit, literal, fixed};
 ghost use Rattle.table_words.specs.Words.{bit_of, BitsOf, word_bit, unpacked, HasBits, Packs};
 
 use crate::PackedTable;
-use exact::Qubit;
+use exact::{Qubit, QubitCount};
+use std::array;
 
 // A Boolean function of the index.
 trait Pattern {
@@ -62,51 +63,41 @@ fn pattern_word<P: Pattern>(pattern: &P, first: u32) -> u64
     ensures { BitsOf result (λ i. P.values pattern.now (first + i)) }
 {
     let mut word = 0u64;
-    let mut i = 64u32;
-    while i > 0 {
-        i -= 1;
-        word = 2 * word + pattern.at(first + i) as u64;
+    for i in (0..64).rev() {
+        word = 2 * word + u64::from(pattern.at(first + i));
     }
     word
 }
 
 // The table of a pattern.
-fn packed<P: Pattern>(qubits: u32, pattern: &P) -> PackedTable
-    requires few { qubits ≤ 8 }
-    requires ready { P.ready pattern.now }
-    ensures { HasBits qubits (P.values pattern.now) result }
+fn packed<P: Pattern>(qubits: QubitCount<8>, pattern: &P) -> PackedTable
+    requires { P.ready pattern.now }
+    ensures { HasBits qubits.number (P.values pattern.now) result }
 {
-    let words = [
-        pattern_word(pattern, 0),
-        pattern_word(pattern, 64),
-        pattern_word(pattern, 128),
-        pattern_word(pattern, 192),
-    ];
+    let words = array::from_fn(|j| pattern_word(pattern, 64 * j as u32));
     PackedTable::clean(qubits, words)
 }
 
 impl PackedTable {
     /// The function that is qubit q's bit.
-    pub fn literal(qubits: u32, q: Qubit) -> PackedTable
-        requires few { qubits ≤ 8 }
-        requires below { q.0 < qubits }
-        ensures { Packs qubits (literal qubits q.0) result }
+    pub fn literal(qubits: QubitCount<8>, q: Qubit) -> PackedTable
+        requires { q.0 < qubits.number }
+        ensures { Packs qubits.number (literal qubits.number q.0) result }
     {
         let bit = IndexBit {
-            shift: qubits - 1 - q.0,
+            shift: qubits.number - 1 - q.0,
         };
         packed(qubits, &bit)
     }
 
     /// f with qubit q set to a bit.
-    pub fn fixed(qubits: u32, f: PackedTable, q: Qubit, bit: bool) -> PackedTable
-        requires few { qubits ≤ 8 }
-        requires below { q.0 < qubits }
-        ensures { Packs qubits (fixed qubits (unpacked qubits f.words) q.0 bit) result }
+    pub fn fixed(qubits: QubitCount<8>, f: PackedTable, q: Qubit, bit: bool) -> PackedTable
+        requires { q.0 < qubits.number }
+        ensures { Packs qubits.number (fixed qubits.number (unpacked qubits.number f.words) q.0 bit) result }
     {
         let set = BitSet {
             table: f,
-            shift: qubits - 1 - q.0,
+            shift: qubits.number - 1 - q.0,
             bit,
         };
         packed(qubits, &set)

@@ -15,25 +15,25 @@ pub returns-in_err-place : goal.returns-in_err-place
 unfolding Checked
 returns-in_err-place c =
     let p = err_from_is_err_and c.from_residual.result c.from_residual.ensures.1 in
-    let x = none_under c.args.self.now.qubits c.args.self.now.limit _ _ _ c.in_err-place.ensures in
+    let x = none_under c.args.self.now.qubits.number c.args.self.now.limit _ _ _ c.in_err-place.ensures in
     rw (p.1, p.2) (listing_refused _ c.args.list.now c.loop-k.k-index _ c.loop-k-test.true (search rules) _ x.1 c.loop-k.invariant ∙ ap Err (sym x.0))
 
 pub bounds-places-place : goal.bounds-places-place
 bounds-places-place c =
-    let a : c.in-Place.place < c.args.self.now.limit = place_there c.args.self.now.qubits _ (vec_items c.args.self.now.words) _ _ (ap Ok (sym c.in-Place.is) ∙ c.in_ok-place.ensures) in
+    let a : c.in-Place.place < c.args.self.now.limit = place_there c.args.self.now.qubits.number _ (vec_items c.args.self.now.words) _ _ (ap Ok (sym c.in-Place.is) ∙ c.in_ok-place.ensures) in
     omega (arith, a, c.requires.laid_out.few_places)
 
 pub loop-k-preserved : goal.loop-k-preserved
 loop-k-preserved c = elim c.match-branch-2.branch [
   | in-Place w ↦
       (let h = ap Ok (sym w.in-Place.is) ∙ c.in_ok-place.ensures in
-      let t = place_told c.args.self.now.qubits c.args.self.now.limit (vec_items c.args.self.now.words) _ _ h in
-      let a : w.in-Place.place < c.args.self.now.limit = place_there c.args.self.now.qubits _ (vec_items c.args.self.now.words) _ _ h in
+      let t = place_told c.args.self.now.qubits.number c.args.self.now.limit (vec_items c.args.self.now.words) _ _ h in
+      let a : w.in-Place.place < c.args.self.now.limit = place_there c.args.self.now.qubits.number _ (vec_items c.args.self.now.words) _ _ h in
       subst (λ (flags : List Bool). Listing (meaning_of c.args.self.now) c.args.list.now flags (c.loop-k.k-index + 1)) (sym w.places-is)
       (listing_place _ c.args.list.now c.loop-k.k-index _ c.loop-k-test.true (search rules) c.loop-k.places w.in-Place.place t.1 (omega (arith, a, c.requires.laid_out.few_places)) t.0 t.2 c.loop-k.invariant))
   | in-Constant w ↦
       (let h = ap Ok (sym w.in-Constant.is) ∙ c.in_ok-place.ensures in
-      let t = constant_told c.args.self.now.qubits c.args.self.now.limit _ _ _ h in
+      let t = constant_told c.args.self.now.qubits.number c.args.self.now.limit _ _ _ h in
       subst (λ (flags : List Bool). Listing (meaning_of c.args.self.now) c.args.list.now flags (c.loop-k.k-index + 1)) (sym w.places-is)
       (listing_constant _ c.args.list.now c.loop-k.k-index _ c.loop-k-test.true (search rules) c.loop-k.places _ t.0 t.1 c.loop-k.invariant))
 ]
