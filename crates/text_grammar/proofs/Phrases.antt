@@ -24,10 +24,10 @@ use Rattle.text_grammar.proofs.Spelled.{Delimited, is_word, section_is_word, sec
 use Rattle.text_grammar.proofs.Faithful.{Faithful, Found, Any, word_back, word_on, word_reads, before_reads, ended_reads, then_reads, same_reads, several_reads}
 
 wrong_not_fits : wrong ≡ fits → ⊥
-wrong_not_fits h = let z : ◌≡◌ {A = ℕ} 0 1 = cc in omega arith
+wrong_not_fits h = cc
 
 beyond_not_fits : (n : ℕ) → beyond n ≡ fits → ⊥
-beyond_not_fits n h = let z : ◌≡◌ {A = ℕ} 0 1 = cc in omega arith
+beyond_not_fits n h = cc
 
 when_fits : (b : Bool) → when b ≡ fits → b ≡ true
 when_fits true e = refl
@@ -71,7 +71,7 @@ index_reads n = word_reads _ bits_of index_word (λ bits. length bits ≡ n)
 
 bit_word : (w : List ℕ) → is_index 1 w ≡ true → w ≡ bit_byte (eqb (get_or w 0 0) 49) ∷ []
 unfolding all_bits
-bit_word [] h = absurd (let z : ◌≡◌ {A = ℕ} 0 1 = cc in let b : ⊥ = omega arith in b)
+bit_word [] h = cc
 bit_word (a ∷ []) h =
     let p = and_parts (leb 48 a && leb a 49) true (and_parts (eqb 1 1) ((leb 48 a && leb a 49) && true) h).1 in
     let d : (leb 48 a && leb a 49) ≡ true = p.0 in
