@@ -17,7 +17,7 @@ use Rattle.text_numbers.proofs.Decimal.{number_says, number_decimal}
 use Rattle.text_numbers.proofs.Indices.{index_says, bits_long, bits_back, word_index}
 use Rattle.text_grammar.specs.Circuits.{Opening, Step, Question, Within, FitsOpening, FitsStep, FitsQuestion, line_tail, section_line, opening_line, step_line, question_line}
 use Rattle.text_grammar.specs.Circuits.Question.{amp, weight, same}
-use Rattle.text_grammar.specs.Syntaxes.{Syntax, Reading, read, fitting, ranged, when, otherwise, number, count, section_name, index, bit, step_name, question_name, several, spaced_number, opening, step, amp_tail, weight_tail, same_tail, question_tail, question, section}
+use Rattle.text_grammar.specs.Syntaxes.{Syntax, Reading, read, fitting, ranged, when, otherwise, number, count, section_name, index, bit, step_name, question_name, several, spaced_number, opening, step, amp_tail, weight_tail, same_tail, question_tail, question, section, telling}
 use Rattle.text_grammar.specs.Syntaxes.Syntax.{byte}
 use Rattle.text_grammar.specs.Syntaxes.Verdict.{fits, wrong, beyond}
 use Rattle.text_grammar.proofs.Spelled.{Delimited, is_word, section_is_word, section_has, step_is_word, question_is_word, decimal_is_word, index_is_word}
@@ -39,7 +39,7 @@ number_word w (Some n) h e = let s = number_says w n h in (s.1, s.0)
 number_word w None h e = absurd (wrong_not_fits e)
 
 pub number_reads : Faithful number decimal Small Delimited
-unfolding number
+unfolding number telling
 number_reads = word_reads _ _ decimal Small
     (λ w e. number_word w (number_of w) refl e)
     (λ n s. (ap fitting (number_decimal n s), ap (otherwise 0) (number_decimal n s), decimal_is_word n s))
@@ -95,13 +95,13 @@ name_word spelling w d (Some a) h e = h a refl
 name_word spelling w d None h e = absurd (wrong_not_fits e)
 
 pub step_name_reads : Faithful step_name step_word (λ s. Unit {0}) Delimited
-unfolding step_name
+unfolding step_name telling
 step_name_reads = word_reads _ _ step_word (λ s. Unit {0})
     (λ w e. (name_word step_word w Close (step_of w) (named_is step_word steps w) e, tt))
     (λ s f. (ap fitting (step_named s), ap (otherwise Close) (step_named s), step_is_word s))
 
 pub question_name_reads : Faithful question_name question_word (λ q. Unit {0}) Delimited
-unfolding question_name
+unfolding question_name telling
 question_name_reads = word_reads _ _ question_word (λ q. Unit {0})
     (λ w e. (name_word question_word w Same (question_of w) (named_is question_word questions w) e, tt))
     (λ q f. (ap fitting (question_named q), ap (otherwise Same) (question_named q), question_is_word q))

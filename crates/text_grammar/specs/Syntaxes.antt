@@ -71,7 +71,7 @@ abbrev pub line_end : Syntax → Syntax
 line_end k = byte 10 k
 
 -- a word of which a value is told; any value stands for what is told of a wrong word, after which nothing is read
-abbrev pub telling : {A : Type 0} → (List ℕ → Option A) → A → (A → Syntax) → Syntax
+unfoldable pub telling : {A : Type 0} → (List ℕ → Option A) → A → (A → Syntax) → Syntax
 telling told any k = word (λ w. fitting (told w)) (λ w. k (otherwise any (told w)))
 
 unfoldable pub number : (ℕ → Syntax) → Syntax

@@ -6,5 +6,5 @@ use Rattle.text_grammar.specs.Syntaxes as syntax
 use Rattle.text_fields.proofs.number.Goals as goal
 
 pub returns : goal.returns
-unfolding syntax.number
+unfolding syntax.number syntax.telling
 returns c = follows_told _ _ _ c.told.ensures (λ w o h. named_judged number_of 0 w o (search rules))
