@@ -45,7 +45,7 @@ passes_checked text form h = go (checked text) h
   where
     go : (r : Result Form TextFault) → answers form r ≡ true → r ≡ Ok form
     go (Ok f) g = ap Ok (forms_same f form g)
-    go (Err e) g = absurd (let z : ◌≡◌ {A = ℕ} 0 1 = cc in let b : ⊥ = omega arith in b)
+    go (Err e) g = cc
 
 -- then the text is that of its circuit
 pub record Passed (text : List ℕ) (form : Form) : Type 0 where
@@ -63,7 +63,7 @@ passed text form h = go (parsed text) refl (passes_checked text form h)
         let g : Ok (form_of c) ≡ Ok form = sym (ap with_form e) ∙ f in
         let same : form_of c ≡ form = cc in
         record { accepted = subst (Accepted text) q a; counts = sym same ∙ ap form_of q }
-    go (Err x) e f = absurd (let g : Err x ≡ Ok form = sym (ap with_form e) ∙ f in let z : ◌≡◌ {A = ℕ} 0 1 = cc in let b : ⊥ = omega arith in b)
+    go (Err x) e f = let g : Err x ≡ Ok form = sym (ap with_form e) ∙ f in cc
 
 pub few_qubits : (text : List ℕ) (form : Form) → Passed text form → form.qubits ≤ 16
 few_qubits text form p = omega (arith, ap (λ (f : Form). f.qubits) p.counts, p.accepted.in_range.qubits_within.1)

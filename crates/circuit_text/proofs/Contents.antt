@@ -1,5 +1,5 @@
 -- The kinds of lines, and what each says where it is read.
-use Rattle.std.proofs.Common.{◌≡◌, ℕ, List, [], ◌∷◌, sym, refl, ap, ◌∙◌, arith}
+use Rattle.std.proofs.Common.{◌≡◌, ℕ, List, [], ◌∷◌, sym, refl, ap, ◌∙◌}
 use Rattle.text_reader.specs.declared.reader.Reader.{Reader}
 use Rattle.text_words.specs.declared.spelling.Section.{Section}
 use Rattle.text_words.specs.Spelling.{range_of}
@@ -13,39 +13,39 @@ use Rattle.text_phrases.specs.declared.values.Step.{Step}
 use Rattle.text_phrases.specs.declared.values.Question.{Question}
 use Rattle.text_fields.specs.Reading.{Counts}
 use Rattle.text_phrases.specs.Values.{IsOpening, IsStep, IsQuestion}
-use Rattle.circuit_text.specs.declared.line.Kind.TheVariants.{Section as SectionKind, Step as StepKind, Question as QuestionKind, Opening as OpeningKind}
 use Rattle.circuit_text.specs.declared.line.Content.TheVariants.{Section as SectionLine, Opening as OpeningLine, Step as StepLine, Question as QuestionLine}
 use Rattle.circuit_text.specs.Lines.{FitsLine, ContentRead}
 use Rattle.circuit_text.proofs.Heads.{line_kind}
+use Rattle.circuit_text.proofs.Heads.Kind.{SectionKind, StepKind, QuestionKind, OpeningKind}
 use Rattle.circuit_text.proofs.Taken.{Kindred, Taken}
 
 -- a line of each kind
 pub section_line_is : (s : Section) (x : circuit.Line) → line_kind x ≡ SectionKind s → (n : ℕ) × (x ≡ section s n)
 unfolding line_kind
 section_line_is s (section named n) e = let q : named ≡ s = cc in (n, ap (λ y. section y n) q)
-section_line_is s (opening o) e = absurd (let z : ◌≡◌ {A = ℕ} 0 1 = cc in let b : ⊥ = omega arith in b)
-section_line_is s (step t) e = absurd (let z : ◌≡◌ {A = ℕ} 0 1 = cc in let b : ⊥ = omega arith in b)
-section_line_is s (question q) e = absurd (let z : ◌≡◌ {A = ℕ} 0 1 = cc in let b : ⊥ = omega arith in b)
+section_line_is s (opening o) e = cc
+section_line_is s (step t) e = cc
+section_line_is s (question q) e = cc
 
 pub opening_line_is : (x : circuit.Line) → line_kind x ≡ OpeningKind → (o : circuit.Opening) × (x ≡ opening o)
 unfolding line_kind
-opening_line_is (section named n) e = absurd (let z : ◌≡◌ {A = ℕ} 0 1 = cc in let b : ⊥ = omega arith in b)
+opening_line_is (section named n) e = cc
 opening_line_is (opening o) e = (o, refl)
-opening_line_is (step t) e = absurd (let z : ◌≡◌ {A = ℕ} 0 1 = cc in let b : ⊥ = omega arith in b)
-opening_line_is (question q) e = absurd (let z : ◌≡◌ {A = ℕ} 0 1 = cc in let b : ⊥ = omega arith in b)
+opening_line_is (step t) e = cc
+opening_line_is (question q) e = cc
 
 pub step_line_is : (x : circuit.Line) → line_kind x ≡ StepKind → (s : circuit.Step) × (x ≡ step s)
 unfolding line_kind
-step_line_is (section named n) e = absurd (let z : ◌≡◌ {A = ℕ} 0 1 = cc in let b : ⊥ = omega arith in b)
-step_line_is (opening o) e = absurd (let z : ◌≡◌ {A = ℕ} 0 1 = cc in let b : ⊥ = omega arith in b)
+step_line_is (section named n) e = cc
+step_line_is (opening o) e = cc
 step_line_is (step t) e = (t, refl)
-step_line_is (question q) e = absurd (let z : ◌≡◌ {A = ℕ} 0 1 = cc in let b : ⊥ = omega arith in b)
+step_line_is (question q) e = cc
 
 pub question_line_is : (x : circuit.Line) → line_kind x ≡ QuestionKind → (q : circuit.Question) × (x ≡ question q)
 unfolding line_kind
-question_line_is (section named n) e = absurd (let z : ◌≡◌ {A = ℕ} 0 1 = cc in let b : ⊥ = omega arith in b)
-question_line_is (opening o) e = absurd (let z : ◌≡◌ {A = ℕ} 0 1 = cc in let b : ⊥ = omega arith in b)
-question_line_is (step t) e = absurd (let z : ◌≡◌ {A = ℕ} 0 1 = cc in let b : ⊥ = omega arith in b)
+question_line_is (section named n) e = cc
+question_line_is (opening o) e = cc
+question_line_is (step t) e = cc
 question_line_is (question q) e = (q, refl)
 
 -- a circuit that holds one value

@@ -1,5 +1,6 @@
 -- A reader that stands before a line of a kind reads it, and no fault can stop it.
-use Rattle.std.proofs.Common.{◌≡◌, ℕ, List, ◌++◌, Ok, Err, Result, sym, ap, ◌∙◌, subst}
+use Rattle.std.proofs.Common.{◌≡◌, ℕ, List, ◌++◌, Ok, Err, Result, sym, refl, ap, ◌∙◌, subst}
+use Rattle.std.specs.Result.{IsOk}
 use Rattle.text_reader.specs.declared.reader.Reader.{Reader}
 use Rattle.text_reader.specs.declared.fault.TextFault.{TextFault}
 use Rattle.text_reader.specs.Tokens.{first_word}
@@ -10,9 +11,8 @@ use Rattle.text_grammar.specs.Syntaxes.Syntax.{done}
 use Rattle.text_grammar.specs.Verdicts.{located}
 use Rattle.text_grammar.proofs.Faithful.{Faithful, Any, err_not_ok}
 use Rattle.text_fields.specs.Reading.{onward, Follows}
-use Rattle.circuit_text.specs.declared.line.Kind.{Kind}
-use Rattle.circuit_text.specs.Lines.{kind_of, FitsLine, BeforeLine}
-use Rattle.circuit_text.proofs.Heads.{line_kind, kind_told}
+use Rattle.circuit_text.specs.Lines.{FitsLine, BeforeLine}
+use Rattle.circuit_text.proofs.Heads.{Kind, kind_of, line_kind, kind_told}
 
 -- a kind of line of a circuit of n qubits: its phrase, what is written of a value, the line of a value, and a circuit from which a value can be told
 pub record Kindred (n : ℕ) (kind : Kind) (A U : Type 0) : Type 1 where
@@ -36,9 +36,9 @@ pub record Taken {A U : Type 0} (Means : U → A → Type 0) (line : A → Line)
   pub same : text_of t ≡ text_of s
   pub left : rest t ≡ more
 
-module _ {n : ℕ} {kind : Kind} {A U : Type 0} (q : Kindred n kind A U) (s : Reader) (h : BeforeLine n s) (k : Kind) (told : k ≡ kind_of (first_word (rest s))) (e : k ≡ kind) where
+module _ {n : ℕ} {kind : Kind} {A U : Type 0} (q : Kindred n kind A U) (s : Reader) (h : BeforeLine n s) (e : kind_of (first_word (rest s)) ≡ kind) where
   here : (a : A) × (h.line ≡ q.line a)
-  here = q.line_is h.line (sym (kind_told n h.line h.more h.fits) ∙ ap (λ r. kind_of (first_word r)) (sym h.text) ∙ sym told ∙ e)
+  here = q.line_is h.line (sym (kind_told n h.line h.more h.fits) ∙ ap (λ r. kind_of (first_word r)) (sym h.text) ∙ e)
 
   reads : onward (q.phrase (λ x. done (q.just x))) s ≡ Ok (q.just here.0, h.more)
   unfolding onward read located
@@ -47,8 +47,12 @@ module _ {n : ℕ} {kind : Kind} {A U : Type 0} (q : Kindred n kind A U) (s : Re
       ap (λ r. located (text_of s) (read (q.phrase (λ x. done (q.just x))) r)) text
       ∙ ap (located (text_of s)) (q.faithful.complete (λ x. done (q.just x)) here.0 h.more (q.fine here.0 (subst (FitsLine n) here.1 h.fits)) tt)
 
-  pub no_fault : (f : TextFault) → ((j : A → Syntax) → onward (q.phrase j) s ≡ Err f) → ⊥
+  no_fault : (f : TextFault) → ((j : A → Syntax) → onward (q.phrase j) s ≡ Err f) → ⊥
   no_fault f g = err_not_ok f (q.just here.0, h.more) (sym (g _) ∙ reads)
+
+  pub always_read : (t : Reader) (r : Result U TextFault) → Follows q.phrase q.Means s t r → IsOk r
+  always_read t (Ok u) f = refl
+  always_read t (Err x) f = absurd (no_fault x f)
 
   pub taken : (t : Reader) (u : U) → Follows q.phrase q.Means s t (Ok u) → Taken q.Means q.line h.line h.more s t u
   unfolding onward read located

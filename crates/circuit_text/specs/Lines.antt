@@ -3,14 +3,11 @@ use Rattle.std.specs.Prelude.{◌≡◌, ℕ, List, [], ◌∷◌, ◌++◌, Som
 use Rattle.text_reader.specs.declared.fault.TextFault.{TextFault}
 use Rattle.text_reader.specs.declared.reader.Reader.{Reader}
 use Rattle.text_reader.specs.Reading.{text_of, rest, standing}
-use Rattle.text_words.specs.declared.spelling.Section.{Section}
-use Rattle.text_words.specs.Spelling.{range_of, section_of, step_of, question_of}
+use Rattle.text_words.specs.Spelling.{range_of}
 use Rattle.text_grammar.specs.Circuits as circuit
 use Rattle.text_grammar.specs.Circuits.Line.{section, opening, step, question}
 use Rattle.text_grammar.specs.Verdicts.{Accepted}
 use Rattle.text_phrases.specs.Values.{IsOpening, IsStep, IsQuestion}
-use Rattle.circuit_text.specs.declared.line.Kind.{Kind}
-use Rattle.circuit_text.specs.declared.line.Kind.TheVariants.{Section as SectionKind, Step as StepKind, Question as QuestionKind, Opening as OpeningKind}
 use Rattle.circuit_text.specs.declared.line.Content.{Content}
 use Rattle.circuit_text.specs.declared.line.Content.TheVariants.{Section as SectionLine, Opening as OpeningLine, Step as StepLine, Question as QuestionLine}
 use Rattle.circuit_text.specs.declared.line.Line.{Line}
@@ -18,22 +15,6 @@ use Rattle.circuit_text.specs.declared.lines.Lines.{Lines}
 use Rattle.circuit_text.specs.declared.text.CircuitText.{CircuitText}
 use Rattle.circuit_text.specs.Forms.{checked}
 use Rattle.circuit_text.specs.Texts.{circuit_in, lines_from}
-
--- the kind of line that begins with a word
-abbrev pub by_question : {A : Type 0} → Option A → Kind
-by_question (Some q) = QuestionKind
-by_question None = OpeningKind
-
-abbrev pub by_step : {A : Type 0} → Option A → Kind → Kind
-by_step (Some s) other = StepKind
-by_step None other = other
-
-abbrev pub by_section : Option Section → Kind → Kind
-by_section (Some s) other = SectionKind s
-by_section None other = other
-
-abbrev pub kind_of : List ℕ → Kind
-kind_of w = by_section (section_of w) (by_step (step_of w) (by_question (question_of w)))
 
 -- what a line's content stands for
 abbrev pub IsContent : Content → circuit.Line → Type 0

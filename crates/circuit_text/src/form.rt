@@ -1,10 +1,12 @@
 //! Whether a text is a circuit text.
-ghost use Rattle.std.specs.Prelude.{◌≡◌, ◌≤◌};
+ghost use Rattle.std.specs.Prelude.{◌≡◌};
 ghost use Rattle.text_grammar.specs.Syntaxes as syntax;
 ghost use Rattle.text_fields.specs.Reading.{Follows, Many, onward};
 ghost use Rattle.circuit_text.specs.Forms.{form_read, checked, FormVerdict};
 
-use text_phrases::{opening, question, section, step};
+use crate::listed::Listed;
+use exact::QubitCount;
+use text_phrases::{Opening, Question, Step, section};
 use text_reader::{Reader, TextFault};
 use text_words::Section;
 
@@ -35,47 +37,33 @@ pub fn check_form(text: &[u8]) -> Result<Form, TextFault>
 fn circuit(reader: &mut Reader) -> Result<Form, TextFault>
     ensures { result ≡ form_read (onward syntax.circuit reader.old) }
 {
-    let qubits = section(reader, Section::Qubits)?;
+    let number = section(reader, Section::Qubits)?;
+    let qubits = QubitCount { number };
     let opens = section(reader, Section::Opens)?;
-    opening_lines(reader, qubits, opens)?;
+    lines::<Opening>(reader, qubits, opens)?;
     let steps = section(reader, Section::Steps)?;
-    step_lines(reader, steps)?;
+    lines::<Step>(reader, qubits, steps)?;
     let reads = section(reader, Section::Reads)?;
-    question_lines(reader, qubits, reads)?;
+    lines::<Question>(reader, qubits, reads)?;
     reader.end()?;
     Ok(Form {
-        qubits,
+        qubits: number,
         opens,
         steps,
         reads,
     })
 }
 
-fn opening_lines(reader: &mut Reader, qubits: u32, total: u32) -> Result<(), TextFault>
-    requires { qubits ≤ 16 }
-    ensures { Follows (syntax.several (syntax.opening qubits) total) (Many total) reader.old reader.new result }
+/// So many lines of one kind.
+fn lines<L: Listed>(
+    reader: &mut Reader,
+    qubits: QubitCount<16>,
+    total: u32,
+) -> Result<(), TextFault>
+    ensures { Follows (syntax.several (L.phrase qubits.number) total) (Many total) reader.old reader.new result }
 {
-    for _i in 0..total {
-        opening(reader, qubits)?;
-    }
-    Ok(())
-}
-
-fn step_lines(reader: &mut Reader, total: u32) -> Result<(), TextFault>
-    ensures { Follows (syntax.several syntax.step total) (Many total) reader.old reader.new result }
-{
-    for _i in 0..total {
-        step(reader)?;
-    }
-    Ok(())
-}
-
-fn question_lines(reader: &mut Reader, qubits: u32, total: u32) -> Result<(), TextFault>
-    requires { qubits ≤ 16 }
-    ensures { Follows (syntax.several (syntax.question qubits) total) (Many total) reader.old reader.new result }
-{
-    for _i in 0..total {
-        question(reader, qubits)?;
+    for _ in 0..total {
+        L::read(reader, qubits)?;
     }
     Ok(())
 }

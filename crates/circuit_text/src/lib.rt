@@ -5,6 +5,7 @@ mod content;
 mod form;
 mod line;
 mod lines;
+mod listed;
 mod reading;
 mod text;
 

@@ -50,12 +50,3 @@ fn offset(bytes: &[u8], nth: usize) -> usize
     }
     bytes.len()
 }
-
-/// The kinds of lines, told by a line's first word.
-#[derive(Clone, Copy)]
-pub(crate) enum Kind {
-    Section(Section),
-    Step,
-    Question,
-    Opening,
-}

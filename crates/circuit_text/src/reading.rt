@@ -9,6 +9,7 @@ use crate::form::{Form, check_form};
 use crate::line::Line;
 use crate::lines::Lines;
 use crate::text::CircuitText;
+use exact::QubitCount;
 use text_reader::{Reader, TextFault};
 
 impl CircuitText {
@@ -51,7 +52,10 @@ impl<'a> Iterator for Lines<'a> {
         }
         let number = self.reader.place().line;
         let bytes = self.reader.line();
-        let content = content(&mut self.reader, self.form.qubits);
+        let qubits = QubitCount {
+            number: self.form.qubits,
+        };
+        let content = content(&mut self.reader, qubits);
         Some(Line {
             number,
             bytes,

@@ -44,30 +44,36 @@ module _ {A : Type 0} (phrase : (A → Syntax) → Syntax) (total i : ℕ) (s t 
         goes = λ k. h.goes k ∙ ap (λ m. onward (several phrase m (λ more. k (got ++ more))) t) z ∙ ap (λ x. onward (k x) t) (append-nil got);
       }
 
--- the same for numbers, which are kept in four places
+-- the same for numbers, each of which is put in its place
 pub record Numbering (phrase : (ℕ → Syntax) → Syntax) (total i : ℕ) (s t : Reader) (places : List ℕ) : Type 0 where
   pub got : List ℕ
   pub read : Underway phrase total i s t got
-  pub kept : places ≡ got ++ replicate (4 - i) 0
+  pub kept : places ≡ got ++ replicate (total - i) 0
 
-pub numbering_none : (phrase : (ℕ → Syntax) → Syntax) (total : ℕ) (s : Reader) → Numbering phrase total 0 s s (0 ∷ 0 ∷ 0 ∷ 0 ∷ [])
-numbering_none phrase total s = record { got = []; read = underway_none phrase total s; kept = refl }
+pub numbering_none : (phrase : (ℕ → Syntax) → Syntax) (total : ℕ) (s : Reader) (places : List ℕ) → places ≡ replicate total 0 → Numbering phrase total 0 s s places
+numbering_none phrase total s places e =
+    let z : total ≡ total - 0 = omega arith in
+    record { got = []; read = underway_none phrase total s; kept = e ∙ ap (λ n. replicate n 0) z }
 
 module _ (phrase : (ℕ → Syntax) → Syntax) (total i : ℕ) (s t : Reader) (places : List ℕ) (h : Numbering phrase total i s t places) where
-  pub numbering_more : (u : Reader) → i < total → total ≤ 4 → (n a : ℕ) → n ≡ a → Reached phrase a t u → Numbering phrase total (i + 1) s u (set places i n)
-  numbering_more u l four n a e r =
-      let m : 4 - i ≡ suc (4 - (i + 1)) = omega arith in
+  pub numbering_more : (u : Reader) → i < total → (n a : ℕ) → n ≡ a → Reached phrase a t u → Numbering phrase total (i + 1) s u (set places i n)
+  numbering_more u l n a e r =
+      let m : total - i ≡ suc (total - (i + 1)) = omega arith in
       record {
         got = h.got ++ (a ∷ []);
         read = underway_more phrase total i s t h.got h.read u l a r;
         kept =
             (λ j. set ((h.kept ∙ ap (λ x. h.got ++ replicate x 0) m) j) i (e j))
-            ∙ set_at h.got 0 (replicate (4 - (i + 1)) 0) a i h.read.many
-            ∙ sym (append_assoc h.got (a ∷ []) (replicate (4 - (i + 1)) 0));
+            ∙ set_at h.got 0 (replicate (total - (i + 1)) 0) a i h.read.many
+            ∙ sym (append_assoc h.got (a ∷ []) (replicate (total - (i + 1)) 0));
       }
 
   pub numbering_stuck : i < total → (e : TextFault) → ((k : ℕ → Syntax) → onward (phrase k) t ≡ Err e) → (k : List ℕ → Syntax) → onward (several phrase total k) s ≡ Err e
   numbering_stuck l e x = underway_stuck phrase total i s t h.got h.read l e x
 
-  pub numbering_all : total ≤ i → Follows (several phrase total) IsNumbers s t (Ok places)
-  numbering_all l = (h.got, (h.kept ∙ ap (λ n. h.got ++ replicate (4 - n) 0) (sym h.read.many), underway_all phrase total i s t h.got h.read l))
+  pub numbering_all : i ≡ total → (all : List ℕ) → all ≡ places ++ replicate (4 - total) 0 → Follows (several phrase total) IsNumbers s t (Ok all)
+  numbering_all l all e =
+      let z : total - i ≡ 0 = omega arith in
+      let m : total ≡ length h.got = omega (arith, h.read.many) in
+      let k : places ≡ h.got = h.kept ∙ ap (λ n. h.got ++ replicate n 0) z ∙ append-nil h.got in
+      (h.got, (e ∙ (λ j. k j ++ replicate (4 - m j) 0), underway_all phrase total i s t h.got h.read (omega arith)))

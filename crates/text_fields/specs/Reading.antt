@@ -1,8 +1,11 @@
 -- How a reader goes on by a syntax, and what the values that it reads stand for.
-use Rattle.std.specs.Prelude.{◌≡◌, ℕ, ◌-◌, Bool, List, ◌++◌, length, replicate, Ok, Err, Result}
+use Rattle.std.specs.Prelude.{◌≡◌, ℕ, ◌-◌, Bool, List, ◌++◌, length, replicate, Ok, Err, Option, Result}
+use Rattle.std.specs.Option.{ok_or}
 use Rattle.text_reader.specs.declared.reader.Reader.{Reader}
 use Rattle.text_reader.specs.declared.fault.TextFault.{TextFault}
-use Rattle.text_reader.specs.Reading.{text_of, rest}
+use Rattle.text_reader.specs.declared.fault.TextFault.TheVariants.{Unexpected}
+use Rattle.text_reader.specs.declared.word.Word.{Word}
+use Rattle.text_reader.specs.Reading.{text_of, rest, Lent}
 use Rattle.text_words.specs.declared.spelling.CountRange.{CountRange}
 use Rattle.exact.specs.Indices.{number}
 use Rattle.text_grammar.specs.Circuits as circuit
@@ -23,6 +26,14 @@ pub record Reached {A : Type 0} (phrase : (A → Syntax) → Syntax) (a : A) (s 
 abbrev pub Follows : {A U : Type 0} → ((A → Syntax) → Syntax) → (U → A → Type 0) → Reader → Reader → Result U TextFault → Type 0
 Follows {A = A} phrase Means s t (Ok u) = (a : A) × (Means u a × Reached phrase a s t)
 Follows {A = A} phrase Means s t (Err e) = (k : A → Syntax) → onward (phrase k) s ≡ Err e
+
+-- from s on a word is lent, and the reader then is t; what is told of its bytes is answered, and where nothing is told, that the word is the fault
+pub record Told {U : Type 0} (Tells : List ℕ → Option U → Type 0) (s t : Reader) (r : Result U TextFault) : Type 0 where
+  pub word : Word
+  pub lent : Lent s t word
+  pub told : Option U
+  pub tells : Tells word.bytes.now told
+  pub answer : r ≡ ok_or told (Unexpected word.byte word.place)
 
 -- what answers stand for
 abbrev pub Is : {A : Type 0} → A → A → Type 0

@@ -2,22 +2,30 @@
 #![tactic(auto)]
 
 ghost use Rattle.std.specs.Prelude.{◌≤◌};
+ghost use Rattle.std.specs.Fn.{FnOnceReturnsAt};
+ghost use Rattle.text_words.specs.Spelling.{named};
 ghost use Rattle.text_grammar.specs.Syntaxes as syntax;
-ghost use Rattle.text_fields.specs.Reading.{Follows, Is, IsNothing, Counts, IsIndex, IsNumbers};
+ghost use Rattle.text_fields.specs.Reading.{Follows, Told, Is, IsNothing, Counts, IsIndex, IsNumbers};
 
+use exact::QubitCount;
 use text_numbers::{basis_index, whole_number};
 use text_reader::{Reader, TextFault};
-use text_words::{CountRange, QuestionWord, Section, StepWord};
+use text_words::{CountRange, Keyword, Section};
+
+/// What `read` tells of the word that stands here; a word of which it tells nothing is a fault.
+fn told<T, F: FnOnce(&[u8]) -> Option<T>>(reader: &mut Reader, read: F) -> Result<T, TextFault>
+    requires { F.IsAlwaysCallable read }
+    ensures { Told (FnOnceReturnsAt F.FnOnce read) reader.old reader.new result }
+{
+    let word = reader.word();
+    read(word.bytes).ok_or(word.unexpected())
+}
 
 /// A whole number.
 pub fn number(reader: &mut Reader) -> Result<u32, TextFault>
     ensures { Follows syntax.number Is reader.old reader.new result }
 {
-    let word = reader.word();
-    match whole_number(word.bytes) {
-        Some(n) => Ok(n),
-        None => Err(word.unexpected()),
-    }
+    told(reader, whole_number)
 }
 
 /// A space and a whole number.
@@ -56,37 +64,28 @@ pub fn section_name(reader: &mut Reader, wanted: Section) -> Result<(), TextFaul
 }
 
 /// A basis index of so many qubits.
-pub fn index(reader: &mut Reader, qubits: u32) -> Result<u32, TextFault>
-    requires { qubits ≤ 16 }
-    ensures { Follows (syntax.index qubits) IsIndex reader.old reader.new result }
+pub fn index(reader: &mut Reader, qubits: QubitCount<16>) -> Result<u32, TextFault>
+    ensures { Follows (syntax.index qubits.number) IsIndex reader.old reader.new result }
 {
-    let word = reader.word();
-    match basis_index(word.bytes, qubits) {
-        Some(i) => Ok(i),
-        None => Err(word.unexpected()),
-    }
+    told(reader, |word| basis_index(word, qubits))
 }
 
 /// A bit.
 pub fn bit(reader: &mut Reader) -> Result<bool, TextFault>
     ensures { Follows syntax.bit Is reader.old reader.new result }
 {
-    let word = reader.word();
-    match basis_index(word.bytes, 1) {
-        Some(i) => Ok(i == 1),
-        None => Err(word.unexpected()),
-    }
+    told(
+        reader,
+        |word| basis_index(word, QubitCount { number: 1 }).map(|index| index == 1),
+    )
 }
 
-/// The word of a step.
-pub fn step_name(reader: &mut Reader) -> Result<StepWord, TextFault>
-    ensures { Follows syntax.step_name Is reader.old reader.new result }
+/// A word that names something, as that of a step or of a question.
+pub fn keyword<K: Keyword>(reader: &mut Reader) -> Result<K, TextFault>
+    ensures { (any : K) → Follows (syntax.telling (named K.spelling K.all) any) Is reader.old reader.new result }
 {
     let word = reader.word();
-    match StepWord::named(word.bytes) {
-        Some(name) => Ok(name),
-        None => Err(word.unexpected()),
-    }
+    K::named(word.bytes).ok_or(word.unexpected())
 }
 
 /// So many whole numbers, each after a space; places beyond them are 0.
@@ -95,20 +94,8 @@ pub fn numbers(reader: &mut Reader, total: u32) -> Result<[u32; 4], TextFault>
     ensures { Follows (syntax.several syntax.spaced_number total) IsNumbers reader.old reader.new result }
 {
     let mut numbers = [0; 4];
-    for i in 0..total {
-        let n = spaced_number(reader)?;
-        numbers[i as usize] = n;
+    for number in &mut numbers[..total as usize] {
+        *number = spaced_number(reader)?;
     }
     Ok(numbers)
-}
-
-/// The word of a question.
-pub fn question_name(reader: &mut Reader) -> Result<QuestionWord, TextFault>
-    ensures { Follows syntax.question_name Is reader.old reader.new result }
-{
-    let word = reader.word();
-    match QuestionWord::named(word.bytes) {
-        Some(name) => Ok(name),
-        None => Err(word.unexpected()),
-    }
 }

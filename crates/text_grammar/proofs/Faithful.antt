@@ -12,7 +12,7 @@ use Rattle.text_grammar.specs.Syntaxes.Stop.{unexpected}
 use Rattle.text_grammar.proofs.Spelled.{Delimited, is_word}
 
 pub err_not_ok : {X E : Type 0} (e : E) (x : X) → Err e ≡ Ok x → ⊥
-err_not_ok e x h = let z : ◌≡◌ {A = ℕ} 0 1 = cc in let b : ⊥ = omega arith in b
+err_not_ok e x h = cc
 
 -- one step back
 pub byte_back : (x : ℕ) (p : Syntax) (t : List ℕ) (c : Reading) → read (byte x p) t ≡ Ok c → (rest : List ℕ) × ((t ≡ x ∷ rest) × (read p rest ≡ Ok c))

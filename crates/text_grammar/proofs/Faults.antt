@@ -47,7 +47,7 @@ same_first_word t u e = sym (word_token u) ∙ ap first_word e ∙ word_token t
 -- a token of a text that begins with no word
 pub same_delimited : (t u : List ℕ) → token u ≡ token t → Delimited t → Delimited u
 same_delimited t [] e d = tt
-same_delimited [] (b ∷ u) e d = absurd (let f : Some b ≡ None = same_head [] (b ∷ u) e in let z : ◌≡◌ {A = ℕ} 0 1 = cc in let x : ⊥ = omega arith in x)
+same_delimited [] (b ∷ u) e d = let f : Some b ≡ None = same_head [] (b ∷ u) e in cc
 same_delimited (a ∷ t) (b ∷ u) e d = let f : Some b ≡ Some a = same_head (a ∷ t) (b ∷ u) e in let q : b ≡ a = cc in ap word_byte q ∙ d
 
 -- what ends a word comes next

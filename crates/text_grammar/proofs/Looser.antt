@@ -12,7 +12,7 @@ use Rattle.text_words.specs.Spelling.{step_of, question_of, range_of}
 use Rattle.text_numbers.specs.Numbers.{Small, number_of}
 use Rattle.text_numbers.proofs.Decimal.{number_says}
 use Rattle.text_grammar.specs.Circuits.{Opening, Step, Question, any_count}
-use Rattle.text_grammar.specs.Syntaxes.{Syntax, Verdict, Reading, read, judged, fitting, when, ranged, number, count, section_name, index, bit, step_name, question_name, several, spaced_number, opening, step, amp_tail, weight_tail, same_tail, question_tail, question, section, circuit_within, circuit}
+use Rattle.text_grammar.specs.Syntaxes.{Syntax, Verdict, Reading, read, judged, fitting, when, ranged, number, count, section_name, index, bit, step_name, question_name, several, spaced_number, opening, step, amp_tail, weight_tail, same_tail, question_tail, question, section, circuit_within, circuit, telling}
 use Rattle.text_grammar.specs.Syntaxes.Syntax.{done, finish, byte, word}
 use Rattle.text_grammar.specs.Syntaxes.Verdict.{fits, wrong, beyond}
 use Rattle.text_grammar.specs.Syntaxes.Stop.{unexpected, out_of_range}
@@ -154,7 +154,7 @@ unfolding Looser
 looser_word v v' next next' e l = (v', (next', (refl, (e, λ w h. l w))))
 
 looser_number : (k j : ℕ → Syntax) → Onto k j → Looser (number k) (number j)
-unfolding number
+unfolding number telling
 looser_number k j l = looser_word _ _ _ _ (λ w. fitting_eased (number_of w)) (λ w. l _)
 
 looser_index : (n : ℕ) (k j : List Bool → Syntax) → Onto k j → Looser (index n k) (index n j)
@@ -185,7 +185,7 @@ unfolding opening
 looser_opening n k j l = looser_number _ _ (λ r. looser_byte 32 _ _ (looser_index n _ _ (λ bits. looser_byte 10 _ _ (l _))))
 
 looser_step : (k j : Step → Syntax) → Onto k j → Looser (step k) (step j)
-unfolding step step_name
+unfolding step step_name telling
 looser_step k j l = looser_word _ _ _ _ (λ w. fitting_eased (step_of w)) (λ w. looser_several spaced_number looser_spaced _ _ _ (λ ns. looser_byte 10 _ _ (l _)))
 
 looser_tail : (n : ℕ) (k j : Question → Syntax) → Onto k j → (q : QuestionWord) → Looser (question_tail n k q) (question_tail n j q)
@@ -195,7 +195,7 @@ looser_tail n k j l Weight = looser_spaced _ _ (λ r. looser_spaced _ _ (λ q. l
 looser_tail n k j l Same = looser_spaced _ _ (λ r. looser_spaced _ _ (λ q. looser_byte 10 _ _ (l _)))
 
 looser_question : (n : ℕ) (k j : Question → Syntax) → Onto k j → Looser (question n k) (question n j)
-unfolding question question_name
+unfolding question question_name telling
 looser_question n k j l = looser_word _ _ _ _ (λ w. fitting_eased (question_of w)) (λ w. looser_tail n k j l _)
 
 pub looser_circuit : Looser circuit (circuit_within any_count)

@@ -13,7 +13,7 @@ use Rattle.text_numbers.specs.Numbers.{Small, number_of, digits_value, index_wor
 use Rattle.text_numbers.proofs.Decimal.{number_says, number_decimal}
 use Rattle.text_numbers.proofs.Indices.{word_index}
 use Rattle.text_grammar.specs.Circuits.{Opening, Step, Question, Ranges, any_count}
-use Rattle.text_grammar.specs.Syntaxes.{Syntax, when, fitting, ranged, number, count, section_name, index, bit, step_name, question_name, several, spaced_number, opening, step, amp_tail, weight_tail, same_tail, question_tail, question, section, circuit_within}
+use Rattle.text_grammar.specs.Syntaxes.{Syntax, when, fitting, ranged, number, count, section_name, index, bit, step_name, question_name, several, spaced_number, opening, step, amp_tail, weight_tail, same_tail, question_tail, question, section, circuit_within, telling}
 use Rattle.text_grammar.specs.Syntaxes.Verdict.{fits, beyond}
 use Rattle.text_grammar.proofs.Spelled.{section_is_word, section_has, decimal_is_word, index_is_word}
 use Rattle.text_grammar.proofs.Faults.{Parted, Open}
@@ -40,7 +40,7 @@ abbrev Ready : {A : Type 0} → (A → Syntax) → Type 0
 Ready {A = A} k = (a : A) → Parted (k a) × Open (k a)
 
 open_number : (k : ℕ → Syntax) → Ready k → Open (number k)
-unfolding Open number digits_value
+unfolding Open number digits_value telling
 open_number k o = ((48 ∷ [], (refl, refl)), λ w h. o _, λ w n e. absurd (fitting_near _ n e))
 
 open_index : (n : ℕ) (k : List Bool → Syntax) → Ready k → Open (index n k)
@@ -54,11 +54,11 @@ unfolding Open bit all_bits
 open_bit k o = ((48 ∷ [], (refl, refl)), λ w h. o _, λ w m e. absurd (when_near _ m e))
 
 open_step_name : (k : StepWord → Syntax) → Ready k → Open (step_name k)
-unfolding Open step_name
+unfolding Open step_name telling
 open_step_name k o = ((step_word Close, (refl, refl)), λ w h. o _, λ w m e. absurd (fitting_near _ m e))
 
 open_question_name : (k : QuestionWord → Syntax) → Ready k → Open (question_name k)
-unfolding Open question_name
+unfolding Open question_name telling
 open_question_name k o = ((question_word Same, (refl, refl)), λ w h. o _, λ w m e. absurd (fitting_near _ m e))
 
 -- a section can be met if some count is in its range

@@ -17,17 +17,17 @@ use Rattle.text_numbers.proofs.Decimal.{number_says, number_decimal}
 use Rattle.text_numbers.proofs.Indices.{index_says, bits_long, bits_back, word_index}
 use Rattle.text_grammar.specs.Circuits.{Opening, Step, Question, Within, FitsOpening, FitsStep, FitsQuestion, line_tail, section_line, opening_line, step_line, question_line}
 use Rattle.text_grammar.specs.Circuits.Question.{amp, weight, same}
-use Rattle.text_grammar.specs.Syntaxes.{Syntax, Reading, read, fitting, ranged, when, otherwise, number, count, section_name, index, bit, step_name, question_name, several, spaced_number, opening, step, amp_tail, weight_tail, same_tail, question_tail, question, section}
+use Rattle.text_grammar.specs.Syntaxes.{Syntax, Reading, read, fitting, ranged, when, otherwise, number, count, section_name, index, bit, step_name, question_name, several, spaced_number, opening, step, amp_tail, weight_tail, same_tail, question_tail, question, section, telling}
 use Rattle.text_grammar.specs.Syntaxes.Syntax.{byte}
 use Rattle.text_grammar.specs.Syntaxes.Verdict.{fits, wrong, beyond}
 use Rattle.text_grammar.proofs.Spelled.{Delimited, is_word, section_is_word, section_has, step_is_word, question_is_word, decimal_is_word, index_is_word}
 use Rattle.text_grammar.proofs.Faithful.{Faithful, Found, Any, word_back, word_on, word_reads, before_reads, ended_reads, then_reads, same_reads, several_reads}
 
 wrong_not_fits : wrong ≡ fits → ⊥
-wrong_not_fits h = let z : ◌≡◌ {A = ℕ} 0 1 = cc in omega arith
+wrong_not_fits h = cc
 
 beyond_not_fits : (n : ℕ) → beyond n ≡ fits → ⊥
-beyond_not_fits n h = let z : ◌≡◌ {A = ℕ} 0 1 = cc in omega arith
+beyond_not_fits n h = cc
 
 when_fits : (b : Bool) → when b ≡ fits → b ≡ true
 when_fits true e = refl
@@ -39,7 +39,7 @@ number_word w (Some n) h e = let s = number_says w n h in (s.1, s.0)
 number_word w None h e = absurd (wrong_not_fits e)
 
 pub number_reads : Faithful number decimal Small Delimited
-unfolding number
+unfolding number telling
 number_reads = word_reads _ _ decimal Small
     (λ w e. number_word w (number_of w) refl e)
     (λ n s. (ap fitting (number_decimal n s), ap (otherwise 0) (number_decimal n s), decimal_is_word n s))
@@ -71,7 +71,7 @@ index_reads n = word_reads _ bits_of index_word (λ bits. length bits ≡ n)
 
 bit_word : (w : List ℕ) → is_index 1 w ≡ true → w ≡ bit_byte (eqb (get_or w 0 0) 49) ∷ []
 unfolding all_bits
-bit_word [] h = absurd (let z : ◌≡◌ {A = ℕ} 0 1 = cc in let b : ⊥ = omega arith in b)
+bit_word [] h = cc
 bit_word (a ∷ []) h =
     let p = and_parts (leb 48 a && leb a 49) true (and_parts (eqb 1 1) ((leb 48 a && leb a 49) && true) h).1 in
     let d : (leb 48 a && leb a 49) ≡ true = p.0 in
@@ -95,13 +95,13 @@ name_word spelling w d (Some a) h e = h a refl
 name_word spelling w d None h e = absurd (wrong_not_fits e)
 
 pub step_name_reads : Faithful step_name step_word (λ s. Unit {0}) Delimited
-unfolding step_name
+unfolding step_name telling
 step_name_reads = word_reads _ _ step_word (λ s. Unit {0})
     (λ w e. (name_word step_word w Close (step_of w) (named_is step_word steps w) e, tt))
     (λ s f. (ap fitting (step_named s), ap (otherwise Close) (step_named s), step_is_word s))
 
 pub question_name_reads : Faithful question_name question_word (λ q. Unit {0}) Delimited
-unfolding question_name
+unfolding question_name telling
 question_name_reads = word_reads _ _ question_word (λ q. Unit {0})
     (λ w e. (name_word question_word w Same (question_of w) (named_is question_word questions w) e, tt))
     (λ q f. (ap fitting (question_named q), ap (otherwise Same) (question_named q), question_is_word q))

@@ -70,8 +70,12 @@ space k = byte 32 k
 abbrev pub line_end : Syntax → Syntax
 line_end k = byte 10 k
 
+-- a word of which a value is told; any value stands for what is told of a wrong word, after which nothing is read
+unfoldable pub telling : {A : Type 0} → (List ℕ → Option A) → A → (A → Syntax) → Syntax
+telling told any k = word (λ w. fitting (told w)) (λ w. k (otherwise any (told w)))
+
 unfoldable pub number : (ℕ → Syntax) → Syntax
-number k = word (λ w. fitting (number_of w)) (λ w. k (otherwise 0 (number_of w)))
+number k = telling number_of 0 k
 
 unfoldable pub count : CountRange → (ℕ → Syntax) → Syntax
 count r k = word (λ w. ranged r (number_of w)) (λ w. k (otherwise 0 (number_of w)))
@@ -86,10 +90,10 @@ unfoldable pub bit : (Bool → Syntax) → Syntax
 bit k = word (λ w. when (is_index 1 w)) (λ w. k (slice_index w 0 == 49))
 
 unfoldable pub step_name : (StepWord → Syntax) → Syntax
-step_name k = word (λ w. fitting (step_of w)) (λ w. k (otherwise Close (step_of w)))
+step_name k = telling step_of Close k
 
 unfoldable pub question_name : (QuestionWord → Syntax) → Syntax
-question_name k = word (λ w. fitting (question_of w)) (λ w. k (otherwise Same (question_of w)))
+question_name k = telling question_of Same k
 
 -- several of one kind
 unfoldable pub several : {A : Type 0} → ((A → Syntax) → Syntax) → ℕ → (List A → Syntax) → Syntax

@@ -1,5 +1,5 @@
 -- The circuit or the fault of a text, and what each says in the words of the grammar.
-use Rattle.std.specs.Prelude.{◌≡◌, ℕ, ◌-◌, ◌<◌, ◌≤◌, cond, List, ◌++◌, length, take, Ok, Err, decimal, Result, nat_lt}
+use Rattle.std.specs.Prelude.{◌≡◌, ℕ, ◌-◌, ◌<◌, ◌≤◌, cond, List, ◌++◌, length, take, Ok, Err, decimal, Option, Result, nat_lt}
 use Rattle.text_reader.specs.declared.place.Place.{Place}
 use Rattle.text_reader.specs.declared.fault.TextFault.{TextFault}
 use Rattle.text_reader.specs.declared.fault.TextFault.TheVariants.{TooLong, Unexpected, OutOfRange}
@@ -35,8 +35,8 @@ pub record Misfit (text : List ℕ) (place : Place) (rest : List ℕ) : Type 0 w
   pub can : (more : List ℕ) × IsCircuitText (before ++ more)
   pub cannot : (more : List ℕ) → token more ≡ token rest → IsCircuitText (before ++ more) → ⊥
 
--- the token at a place, which begins with this byte, fits in no text, whatever counts the sections may have
-pub record NoSuchToken (text : List ℕ) (byte : ℕ) (place : Place) : Type 0 where
+-- the token at a place, which begins with this byte or is the end, fits in no text, whatever counts the sections may have
+pub record NoSuchToken (text : List ℕ) (byte : Option ℕ) (place : Place) : Type 0 where
   pub rest : List ℕ
   pub begins : byte ≡ first_byte rest
   pub misfit : Misfit text place rest

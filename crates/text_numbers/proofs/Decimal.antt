@@ -1,13 +1,13 @@
 -- A word that reads as a number is its decimal, and each decimal of at most five digits reads as its number.
 use Rattle.std.proofs.Common.{◌≡◌, ℕ, ◌+◌, ◌-◌, ◌*◌, ◌^◌, ◌<◌, ◌≤◌, Bool, true, false, ◌&&◌, List, [], ◌∷◌, length, get_or, drop, Some, None, decimal, Option, sym, refl, ap, ◌∙◌, ⊎_elim, add-one, arith, rules}
-use native.Mathlib.Nat.{pow-succ', pow-le-pow_right}
+use native.Mathlib.Nat.{pow-succ'}
 use Rattle.std.proofs.lemmas.List.{at_drop_more, at_drop_all}
 use Rattle.std.proofs.lemmas.Str.Parse.{IsNumeralModel, numerals_by_fold, digits_value_short}
 use Rattle.std.proofs.lemmas.Fmt.{decimal-digits_value, digits_decimal, digits_value-decimal, length-decimal-le, decimal_nonempty, first_decimal, decimal_digit}
 use Rattle.std.proofs.lemmas.Bool.{and_parts, and_from, cond-true, cond-false, cases_Bool, cases_lt}
 use Rattle.std.proofs.lemmas.Bool.Decides.{nat_tests}
 use Rattle.text_numbers.specs.Numbers.{Small, ReadsNumber, digit, digits_value, well_formed, number_of}
-use Rattle.text_numbers.proofs.Options.{none_not_some}
+use Rattle.std.proofs.lemmas.Option.{none-some}
 
 -- the loop over the digits: a digit more, another byte, and the end
 pub digits_more : (w : List ℕ) (i v : ℕ) → i < length w → digit (get_or w i 0) ≡ true → digits_value v (drop i w) ≡ digits_value (10 * v + (get_or w i 0 - 48)) (drop (i + 1) w)
@@ -22,10 +22,7 @@ pub digits_all : (w : List ℕ) (i v : ℕ) → length w ≤ i → digits_value 
 unfolding digits_value
 digits_all w i v h = at_drop_all (digits_value v) w i h
 
--- its value fits at five digits
-pub value_room : (i v : ℕ) → i ≤ 4 → v < 10 ^ i → v < 10000
-value_room i v h l = let p : 10 ^ i ≤ 10 ^ 4 = pow-le-pow_right {n = 10} (omega arith) h in omega arith
-
+-- the value has at most as many digits as were read
 pub value_more : (i v d : ℕ) → v < 10 ^ i → d ≤ 9 → 10 * v + d < 10 ^ (i + 1)
 value_more i v d h s = rw (add-one i, pow-succ' 10 i) (omega arith)
 
@@ -47,7 +44,7 @@ digits_say n [] m e = (refl, let q : n ≡ m = cc in q)
 digits_say n (b ∷ bs) m e =
     ⊎_elim
     (λ h. let r = digits_say (10 * n + (b - 48)) bs m (sym (cond-true _ _ _ h) ∙ e) in (and_from _ _ h r.0, r.1))
-    (λ h. absurd (none_not_some m (sym (cond-false _ _ _ h) ∙ e)))
+    (λ h. absurd (none-some m (sym (cond-false _ _ _ h) ∙ e)))
     (cases_Bool (digit b))
 
 digits_read : (n : ℕ) (w : List ℕ) → all_digits w ≡ true → digits_value n w ≡ Some (read_on n w)
@@ -65,7 +62,7 @@ number_says w n e =
     let zero_alone : get_or w 0 0 ≡ 48 → length w ≡ 1 = (λ z. grind (arith, nat_tests)) in
     let small : read_on 0 w < 10 ^ 5 = digits_value_short own w 5 r.0 few in
     (omega (arith, r.1, small), sym (sym (ap decimal r.1) ∙ decimal-digits_value own w r.0 some zero_alone (omega arith))))
-    (λ h. absurd (none_not_some n (sym (cond-false _ _ _ h) ∙ e)))
+    (λ h. absurd (none-some n (sym (cond-false _ _ _ h) ∙ e)))
     (cases_Bool (well_formed w))
 
 decimal_formed : (n : ℕ) → Small n → well_formed (decimal n) ≡ true
@@ -86,4 +83,4 @@ number_decimal n s = cond-true _ _ _ (decimal_formed n s) ∙ digits_read 0 (dec
 -- the definition by digits says what a number is
 pub reads_number : (w : List ℕ) (r : Option ℕ) → r ≡ number_of w → ReadsNumber w r
 reads_number w (Some n) e = number_says w n (sym e)
-reads_number w None e = λ n s d. none_not_some n (e ∙ ap number_of d ∙ number_decimal n s)
+reads_number w None e = λ n s d. none-some n (e ∙ ap number_of d ∙ number_decimal n s)

@@ -6,7 +6,7 @@ use Rattle.std.proofs.lemmas.Bool.{and_parts, and_from, eqb-true, eq-eqb, cond-t
 use Rattle.std.proofs.lemmas.Bool.Decides.{nat_tests}
 use Rattle.exact.specs.Indices.{number}
 use Rattle.text_numbers.specs.Numbers.{bit_byte, index_word, all_bits, bits_of, is_index, index_of, ReadsIndex}
-use Rattle.text_numbers.proofs.Options.{none_not_some}
+use Rattle.std.proofs.lemmas.Option.{none-some}
 
 -- the number of a basis index, bit by bit
 pub bits_value : ℕ → List Bool → ℕ
@@ -118,6 +118,6 @@ reads_index n w (Some i) e =
     let s : Some i ≡ Some (number (bits_of w)) = e ∙ cond-true _ _ _ h in
     let q : i ≡ number (bits_of w) = cc in
     (bits_of w, (bits_long w ∙ eqb-true _ _ p.0, index_says w p.1, q)))
-    (λ h. absurd (none_not_some i (sym (e ∙ cond-false _ _ _ h))))
+    (λ h. absurd (none-some i (sym (e ∙ cond-false _ _ _ h))))
     (cases_Bool (is_index n w))
-reads_index n w None e = λ bits l d. none_not_some (number (bits_of w)) (e ∙ cond-true _ _ _ (ap (is_index n) d ∙ word_index n bits l))
+reads_index n w None e = λ bits l d. none-some (number (bits_of w)) (e ∙ cond-true _ _ _ (ap (is_index n) d ∙ word_index n bits l))

@@ -1,3 +1,2 @@
-pub mod Options
 pub mod Decimal
 pub mod Indices

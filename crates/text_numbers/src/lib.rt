@@ -4,6 +4,8 @@
 ghost use Rattle.std.specs.Prelude.{◌≡◌, ◌≤◌, length};
 ghost use Rattle.text_numbers.specs.Numbers.{number_of, well_formed, digits_value, index_of, ReadsNumber, ReadsIndex};
 
+use exact::QubitCount;
+
 /// The whole number that a word writes: one to five digits with no needless zero.
 pub fn whole_number(word: &[u8]) -> Option<u32>
     ensures equals { result ≡ number_of word.now }
@@ -28,29 +30,27 @@ fn digits(word: &[u8]) -> Option<u32>
     requires { length word.now ≤ 5 }
     ensures { result ≡ digits_value 0 word.now }
 {
-    let mut value: u32 = 0;
+    let mut value = 0;
     for b in word {
-        let b = *b;
-        if b < b'0' || b > b'9' {
+        if !b.is_ascii_digit() {
             return None;
         }
-        value = 10 * value + (b - b'0') as u32;
+        value = 10 * value + u32::from(b - b'0');
     }
     Some(value)
 }
 
 /// The basis index that a word writes in one bit for each qubit, qubit 0 first.
-pub fn basis_index(word: &[u8], qubits: u32) -> Option<u32>
-    requires { qubits ≤ 16 }
-    ensures equals { result ≡ index_of qubits word.now }
-    ensures reads { ReadsIndex qubits word.now result }
+pub fn basis_index(word: &[u8], qubits: QubitCount<16>) -> Option<u32>
+    ensures equals { result ≡ index_of qubits.number word.now }
+    ensures reads { ReadsIndex qubits.number word.now result }
 {
-    if word.len() != qubits as usize {
+    if word.len() != qubits.number as usize {
         return None;
     }
-    let mut value: u32 = 0;
+    let mut value = 0;
     for b in word {
-        value = match *b {
+        value = match b {
             b'0' => 2 * value,
             b'1' => 2 * value + 1,
             _ => return None,

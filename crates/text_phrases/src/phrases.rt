@@ -1,16 +1,14 @@
 //! The lines of circuit text, and what follows a question's word.
-ghost use Rattle.std.specs.Prelude.{◌≤◌};
 ghost use Rattle.text_words.specs.Spelling.{range_of};
 ghost use Rattle.text_grammar.specs.Syntaxes as syntax;
 ghost use Rattle.text_fields.specs.Reading.{Follows, Counts};
 ghost use Rattle.text_phrases.specs.Values.{IsOpening, IsStep, IsQuestion};
 
 use crate::values::{Opening, Question, Step};
-use text_fields::{
-    bit, count, index, number, numbers, question_name, section_name, spaced_number, step_name,
-};
+use exact::QubitCount;
+use text_fields::{bit, count, index, keyword, number, numbers, section_name, spaced_number};
 use text_reader::{Reader, TextFault};
-use text_words::{QuestionWord, Section};
+use text_words::{QuestionWord, Section, StepWord};
 
 /// A section's word and count.
 pub fn section(reader: &mut Reader, wanted: Section) -> Result<u32, TextFault>
@@ -24,9 +22,8 @@ pub fn section(reader: &mut Reader, wanted: Section) -> Result<u32, TextFault>
 }
 
 /// A register and its basis index.
-pub fn opening(reader: &mut Reader, qubits: u32) -> Result<Opening, TextFault>
-    requires { qubits ≤ 16 }
-    ensures { Follows (syntax.opening qubits) IsOpening reader.old reader.new result }
+pub fn opening(reader: &mut Reader, qubits: QubitCount<16>) -> Result<Opening, TextFault>
+    ensures { Follows (syntax.opening qubits.number) IsOpening reader.old reader.new result }
 {
     let register = number(reader)?;
     reader.expect(b' ')?;
@@ -39,15 +36,14 @@ pub fn opening(reader: &mut Reader, qubits: u32) -> Result<Opening, TextFault>
 pub fn step(reader: &mut Reader) -> Result<Step, TextFault>
     ensures { Follows syntax.step IsStep reader.old reader.new result }
 {
-    let name = step_name(reader)?;
+    let name: StepWord = keyword(reader)?;
     let numbers = numbers(reader, name.numbers())?;
     reader.expect(b'\n')?;
     Ok(Step { name, numbers })
 }
 
-fn amp_tail(reader: &mut Reader, qubits: u32) -> Result<Question, TextFault>
-    requires { qubits ≤ 16 }
-    ensures { Follows (syntax.amp_tail qubits) IsQuestion reader.old reader.new result }
+fn amp_tail(reader: &mut Reader, qubits: QubitCount<16>) -> Result<Question, TextFault>
+    ensures { Follows (syntax.amp_tail qubits.number) IsQuestion reader.old reader.new result }
 {
     let register = spaced_number(reader)?;
     reader.expect(b' ')?;
@@ -81,11 +77,10 @@ fn same_tail(reader: &mut Reader) -> Result<Question, TextFault>
 }
 
 /// A question's word and what it asks about.
-pub fn question(reader: &mut Reader, qubits: u32) -> Result<Question, TextFault>
-    requires { qubits ≤ 16 }
-    ensures { Follows (syntax.question qubits) IsQuestion reader.old reader.new result }
+pub fn question(reader: &mut Reader, qubits: QubitCount<16>) -> Result<Question, TextFault>
+    ensures { Follows (syntax.question qubits.number) IsQuestion reader.old reader.new result }
 {
-    match question_name(reader)? {
+    match keyword(reader)? {
         QuestionWord::Amp => amp_tail(reader, qubits),
         QuestionWord::Weight => weight_tail(reader),
         QuestionWord::Same => same_tail(reader),

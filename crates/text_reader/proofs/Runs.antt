@@ -1,7 +1,10 @@
 -- Runs of bytes of a kind: the steps of a loop over one, and how it parts a text.
-use Rattle.std.proofs.Common.{◌≡◌, ℕ, suc, ◌+◌, ◌-◌, ◌<◌, ◌≤◌, Bool, true, false, cond, ◌&&◌, List, [], ◌∷◌, ◌++◌, length, get_or, take, drop, sym, refl, ap, ◌∙◌, arith}
-use Rattle.std.proofs.lemmas.List.{at_drop_more, at_drop_all, take_all}
+use Rattle.std.proofs.Common.{◌≡◌, ℕ, suc, ◌+◌, ◌≤◌, Bool, true, false, cond, ◌&&◌, List, [], ◌∷◌, ◌++◌, length, take, drop, Option, not, refl, ap, ◌∙◌, arith}
+use Rattle.std.proofs.lemmas.Bool.Decides.{nat_tests}
 use Rattle.std.proofs.lemmas.Bool.{cond-true, cond-false, and_parts, and_from}
+use Rattle.std.specs.List.{position_or_len, position}
+use Rattle.std.proofs.lemmas.List.Recursion.{is_position_or_len}
+use Rattle.std.specs.Option.{unwrap_or}
 use Rattle.text_reader.specs.Tokens.{run_of, past_run}
 
 -- all bytes are of a kind
@@ -15,28 +18,10 @@ EndsRun kind [] = Unit {0}
 EndsRun kind (b ∷ bs) = kind b ≡ false
 
 module _ (kind : ℕ → Bool) where
-  pub run_more : (t : List ℕ) (i : ℕ) → i < length t → kind (get_or t i 0) ≡ true → length (run_of kind (drop i t)) ≡ suc (length (run_of kind (drop (i + 1) t)))
-  unfolding run_of
-  run_more t i h e = ap length (at_drop_more (run_of kind) t i 0 h ∙ cond-true _ _ _ e)
-
-  pub run_stop : (t : List ℕ) (i : ℕ) → i < length t → kind (get_or t i 0) ≡ false → length (run_of kind (drop i t)) ≡ 0
-  unfolding run_of
-  run_stop t i h e = ap length (at_drop_more (run_of kind) t i 0 h ∙ cond-false _ _ _ e)
-
-  pub run_end : (t : List ℕ) (i : ℕ) → length t ≤ i → length (run_of kind (drop i t)) ≡ 0
-  unfolding run_of
-  run_end t i h = ap length (at_drop_all (run_of kind) t i h)
-
   pub take_run : (t : List ℕ) → take (length (run_of kind t)) t ≡ run_of kind t
   unfolding run_of
   take_run [] = refl
   take_run (b ∷ bs) = elim (kind b) as (λ p. take (length (cond p (b ∷ run_of kind bs) [])) (b ∷ bs) ≡ cond p (b ∷ run_of kind bs) []) [ true ↦ ap (λ l. b ∷ l) (take_run bs) | false ↦ refl ]
-
-  pub run_cut : (t : List ℕ) (n : ℕ) → length (run_of kind t) ≡ n → take (n - 0) t ≡ run_of kind t
-  run_cut t n e = let z : n - 0 ≡ length (run_of kind t) = omega (arith, e) in ap (λ k. take k t) z ∙ take_run t
-
-  pub run_full : (t : List ℕ) → length t ≤ length (run_of kind t) → t ≡ run_of kind t
-  run_full t h = sym (take_all (length (run_of kind t)) t h) ∙ take_run t
 
   pub drop_run : (t : List ℕ) → drop (length (run_of kind t)) t ≡ past_run kind t
   unfolding run_of past_run
@@ -47,6 +32,18 @@ module _ (kind : ℕ → Bool) where
   unfolding run_of
   run_within [] = omega arith
   run_within (b ∷ bs) = elim (kind b) as (λ p. length (cond p (b ∷ run_of kind bs) []) ≤ suc (length bs)) [ true ↦ omega (arith, run_within bs) | false ↦ omega arith ]
+
+  -- the first byte of another kind ends the run, and where there is none it is the whole text
+  length_run : (t : List ℕ) → length (run_of kind t) ≡ position_or_len (λ b. not (kind b)) t
+  unfolding run_of
+  length_run t = is_position_or_len (λ l. length (run_of kind l)) (λ b. not (kind b)) refl (λ b bs. elim (kind b) as (λ p. length (cond p (b ∷ run_of kind bs) []) ≡ cond (not p) 0 (1 + length (run_of kind bs))) [ true ↦ omega arith | false ↦ refl ]) t
+
+  pub run_found : (t : List ℕ) (o : Option ℕ) (n : ℕ) → o ≡ position (λ b. not (kind b)) t → n ≡ unwrap_or o (length t) → take n t ≡ run_of kind t
+  run_found t o n e u =
+      let long = length_run t in
+      let within = run_within t in
+      let h : n ≡ length (run_of kind t) = grind (arith, nat_tests) in
+      ap (λ k. take k t) h ∙ take_run t
 
   pub split_run : (t : List ℕ) → t ≡ run_of kind t ++ past_run kind t
   unfolding run_of past_run

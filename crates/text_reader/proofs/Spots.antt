@@ -1,6 +1,6 @@
 -- Places after bytes.
-use Rattle.std.proofs.Common.{◌≡◌, ℕ, suc, ◌+◌, ◌^◌, ◌<◌, ◌≤◌, true, false, cond, eqb, List, [], ◌∷◌, ◌++◌, length, get_or, take, drop, sym, refl, ap, ◌∙◌, add-zero, arith, length-drop, take-add}
-use Rattle.std.proofs.lemmas.List.{take_more, length-take-le}
+use Rattle.std.proofs.Common.{◌≡◌, ℕ, suc, ◌+◌, ◌^◌, ◌<◌, ◌≤◌, true, false, cond, eqb, List, [], ◌∷◌, ◌++◌, length, take, drop, sym, refl, ap, ◌∙◌, add-zero, arith, length-drop, take-add}
+use Rattle.std.proofs.lemmas.List.{length-take-le}
 use Rattle.std.proofs.lemmas.Bool.{and_parts}
 use Rattle.std.proofs.lemmas.Bool.Decides.{nat_tests}
 use Rattle.text_reader.specs.declared.place.Place.{Place}
@@ -97,17 +97,15 @@ stands_word text pos n place s e =
       columns = ap (λ k. k + n) s.columns ∙ ap (λ k. (moved_by (take pos text) one).column + k) e ∙ sym (ap (λ (p : Place). p.column) q);
     }
 
-pub stands_byte : (text : List ℕ) (pos : ℕ) (place : Place) → Stands text pos place → pos < length text → Stands text (pos + 1) (moved (get_or text pos 0) place)
+pub stands_byte : (text : List ℕ) (pos b : ℕ) (place : Place) → Stands text pos place → drop pos text ≡ b ∷ drop (pos + 1) text → Stands text (pos + 1) (moved b place)
 unfolding place_after moved_by
-stands_byte text pos place s h =
+stands_byte text pos b place s e =
     let one : Place = record { line = 1; column = 1 } in
-    let b = get_or text pos 0 in
-    let same : place ≡ moved_by (take pos text) one = (λ i. record { line = s.lines i; column = s.columns i }) in
-    let q : moved_by (take (pos + 1) text) one ≡ moved b (moved_by (take pos text) one) = ap (λ l. moved_by l one) (take_more text pos 0 h) ∙ moved_append (take pos text) (b ∷ []) one in
-    let r : moved b place ≡ moved_by (take (pos + 1) text) one = ap (moved b) same ∙ sym q in
+    let before : take (pos + 1) text ≡ take pos text ++ (b ∷ []) = take-add pos 1 text ∙ ap (λ l. take pos text ++ take 1 l) e in
+    let r : moved b place ≡ moved_by (take (pos + 1) text) one = ap (moved b) (stands_place s) ∙ sym (ap (λ l. moved_by l one) before ∙ moved_append (take pos text) (b ∷ []) one) in
     record {
       sized = s.sized;
-      within = omega (arith, h);
+      within = omega (arith, length-drop pos text, ap length e);
       lines = ap (λ (p : Place). p.line) r;
       columns = ap (λ (p : Place). p.column) r;
     }

@@ -1,5 +1,5 @@
 -- Places in a text.
-use Rattle.std.specs.Prelude.{ℕ, ◌+◌, cond, List, [], ◌∷◌, ◌==◌}
+use Rattle.std.specs.Prelude.{ℕ, ◌+◌, cond, List, [], ◌∷◌, ◌++◌, decimal, ◌==◌}
 use Rattle.text_reader.specs.declared.place.Place.{Place}
 
 -- the place after a byte
@@ -14,3 +14,7 @@ moved_by (b ∷ bs) p = moved_by bs (moved b p)
 -- the place after the bytes that a text begins with
 unfoldable pub place_after : List ℕ → Place
 place_after bs = moved_by bs (record { line = 1; column = 1 })
+
+-- a place as it is printed: the line and the column
+abbrev pub place_text : Place → List ℕ
+place_text p = decimal p.line ++ (32 ∷ decimal p.column)

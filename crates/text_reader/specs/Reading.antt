@@ -1,5 +1,5 @@
 -- What a reader's moves do.
-use Rattle.std.specs.Prelude.{◌≡◌, ℕ, List, [], ◌∷◌, take, drop, Ok, Err, Result, ◌≢◌, slice_index}
+use Rattle.std.specs.Prelude.{◌≡◌, ℕ, List, [], ◌∷◌, take, drop, Ok, Err, Some, None, Option, Result, ◌≢◌}
 use Rattle.text_reader.specs.declared.place.Place.{Place}
 use Rattle.text_reader.specs.declared.word.Word.{Word}
 use Rattle.text_reader.specs.declared.reader.Reader.{Reader}
@@ -19,9 +19,10 @@ rest s = drop s.pos s.text.now
 unfoldable pub standing : Reader → Place
 standing s = place_after (take s.pos s.text.now)
 
--- the byte that a text begins with, or 0
-abbrev pub first_byte : List ℕ → ℕ
-first_byte t = slice_index t 0
+-- the byte that a text begins with
+abbrev pub first_byte : List ℕ → Option ℕ
+first_byte [] = None
+first_byte (b ∷ bs) = Some b
 
 -- the fault of what stands where a reader is
 abbrev pub unexpected_at : Reader → TextFault

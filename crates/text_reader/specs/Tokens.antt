@@ -1,5 +1,5 @@
 -- Words, tokens and lines of a text.
-use Rattle.std.specs.Prelude.{ℕ, Bool, cond, not, ◌&&◌, List, [], ◌∷◌, ◌==◌}
+use Rattle.std.specs.Prelude.{◌≡◌, ℕ, Bool, cond, not, ◌&&◌, List, [], ◌∷◌, ◌==◌}
 
 -- the longest run of bytes of a kind that a text begins with, and what stands after it
 unfoldable pub run_of : (ℕ → Bool) → List ℕ → List ℕ
@@ -9,6 +9,10 @@ run_of kind (b ∷ bs) = cond (kind b) (b ∷ run_of kind bs) []
 unfoldable pub past_run : (ℕ → Bool) → List ℕ → List ℕ
 past_run kind [] = []
 past_run kind (b ∷ bs) = cond (kind b) (past_run kind bs) (b ∷ bs)
+
+-- what is answered of a byte is whether it is of a kind
+abbrev pub Tells : (ℕ → Bool → Type 0) → (ℕ → Bool) → Type 0
+Tells answer kind = (b : ℕ) (told : Bool) → answer b told → told ≡ kind b
 
 -- a byte of a line is no line end, and one of a word is no space either
 abbrev pub line_byte : ℕ → Bool

@@ -1,6 +1,8 @@
 //! A place in a text.
-ghost use Rattle.std.specs.Prelude.{◌≡◌, ◌+◌, ◌^◌, ◌<◌};
-ghost use Rattle.text_reader.specs.Places.{moved};
+ghost use Rattle.std.specs.Prelude.{◌≡◌, ◌+◌, ◌^◌, ◌<◌, Some};
+ghost use Rattle.text_reader.specs.Places.{moved, place_text};
+
+use std::fmt;
 
 /// A line and a column, both counted from 1; columns count bytes.
 #[derive(Clone, Copy)]
@@ -26,5 +28,14 @@ impl Place {
                 column: self.column + 1,
             }
         }
+    }
+}
+
+impl fmt::Display for Place {
+    ghost output = { λ p. Some (place_text p) };
+
+    fn fmt<W: fmt::Write>(&self, f: &mut fmt::Formatter<W>) -> fmt::Result {
+        let Place { line, column } = *self;
+        write!(f, "{line} {column}")
     }
 }

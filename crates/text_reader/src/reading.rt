@@ -7,7 +7,7 @@ ghost use Rattle.text_reader.specs.Reading.{text_of, rest, standing, first_byte,
 use crate::fault::TextFault;
 use crate::place::Place;
 use crate::reader::Reader;
-use crate::word::{Word, first_line, first_word};
+use crate::word::{Word, run};
 
 impl<'a> Reader<'a> {
     /// Stands at the start of the text.
@@ -34,7 +34,7 @@ impl<'a> Reader<'a> {
     pub fn peek(&self) -> &'a [u8]
         ensures { result.now ≡ first_word (rest self.now) }
     {
-        first_word(self.left())
+        run(self.left(), |byte| byte != b'\n' && byte != b' ')
     }
 
     /// Lends the word that stands here, and stands after it.
@@ -53,14 +53,14 @@ impl<'a> Reader<'a> {
     pub fn line(&self) -> &'a [u8]
         ensures { result.now ≡ first_line (rest self.now) }
     {
-        first_line(self.left())
+        run(self.left(), |byte| byte != b'\n')
     }
 
     /// Passes this byte, or stays where it does not stand here.
     pub fn expect(&mut self, byte: u8) -> Result<(), TextFault>
         ensures { Passed byte self.old self.new result }
     {
-        if self.pos < self.text.len() && self.text[self.pos] == byte {
+        if self.byte() == Some(byte) {
             self.place = self.place.past(byte);
             self.pos += 1;
             Ok(())
@@ -73,7 +73,7 @@ impl<'a> Reader<'a> {
     pub fn end(&self) -> Result<(), TextFault>
         ensures { Ended self.now result }
     {
-        if self.pos == self.text.len() {
+        if self.left().is_empty() {
             Ok(())
         } else {
             Err(self.unexpected())
@@ -84,19 +84,14 @@ impl<'a> Reader<'a> {
     fn left(&self) -> &'a [u8]
         ensures { result.now ≡ rest self.now }
     {
-        let text: &'a [u8] = self.text;
-        &text[self.pos..]
+        &self.text[self.pos..]
     }
 
-    /// The byte that it stands before, or 0 at the end.
-    fn byte(&self) -> u8
+    /// The byte that it stands before, unless it is the end.
+    fn byte(&self) -> Option<u8>
         ensures { result ≡ first_byte (rest self.now) }
     {
-        if self.pos < self.text.len() {
-            self.text[self.pos]
-        } else {
-            0
-        }
+        self.left().first().copied()
     }
 
     /// The fault of what stands here.

@@ -1,6 +1,6 @@
 //! A word of a text.
-ghost use Rattle.std.specs.Prelude.{◌≡◌};
-ghost use Rattle.text_reader.specs.Tokens.{first_word, first_line};
+ghost use Rattle.std.specs.Prelude.{◌≡◌, ℕ, Bool};
+ghost use Rattle.text_reader.specs.Tokens.{run_of, Tells};
 ghost use Rattle.text_reader.specs.declared.fault.TextFault.TheVariants.{Unexpected};
 
 use crate::fault::TextFault;
@@ -10,8 +10,8 @@ use crate::place::Place;
 #[derive(Clone, Copy)]
 pub struct Word<'a> {
     pub bytes: &'a [u8],
-    /// The byte at the place, or 0 at the end.
-    pub byte: u8,
+    /// The byte at the place, unless it is the end.
+    pub byte: Option<u8>,
     pub place: Place,
 }
 
@@ -27,26 +27,11 @@ impl<'a> Word<'a> {
     }
 }
 
-/// What stands before the first space or line end.
-pub(crate) fn first_word(text: &[u8]) -> &[u8]
-    ensures { result.now ≡ first_word text.now }
+/// The longest run of bytes of a kind that a text begins with.
+pub(crate) fn run<F: Fn(u8) -> bool>(text: &[u8], kind: F) -> &[u8]
+    requires { F.IsAlwaysCallable kind }
+    ensures { (of_kind : ℕ → Bool) → Tells (F.post kind) of_kind → result.now ≡ run_of of_kind text.now }
 {
-    for (i, b) in text.iter().enumerate() {
-        if *b == b'\n' || *b == b' ' {
-            return &text[0..i];
-        }
-    }
-    text
-}
-
-/// What stands before the first line end.
-pub(crate) fn first_line(text: &[u8]) -> &[u8]
-    ensures { result.now ≡ first_line text.now }
-{
-    for (i, b) in text.iter().enumerate() {
-        if *b == b'\n' {
-            return &text[0..i];
-        }
-    }
-    text
+    let end = text.iter().position(|b| !kind(*b));
+    &text[..end.unwrap_or(text.len())]
 }

@@ -3,7 +3,7 @@ use Rattle.std.proofs.Common.{◌≡◌, ℕ, suc, ◌+◌, true, eqb, List, [],
 use Rattle.std.proofs.lemmas.Slice.Eq.{HasBytesAt, text_from_reads}
 use Rattle.std.proofs.lemmas.Bool.{and_parts, eqb-true, cond-true, cond-false, cases_Bool}
 use Rattle.gates.specs.declared.Gate.TheVariants.{X, Z, H, S, T, Rx, Ry, Cx, Cz, Ccx}
-use Rattle.text_numbers.proofs.Options.{none_not_some}
+use Rattle.std.proofs.lemmas.Option.{none-some}
 use Rattle.text_words.specs.declared.spelling.Section.{Section}
 use Rattle.text_words.specs.declared.spelling.Section.TheVariants.{Qubits, Opens, Steps, Reads}
 use Rattle.text_words.specs.declared.spelling.StepWord.{StepWord}
@@ -23,7 +23,7 @@ pub has_is : (w bs : List ℕ) → has w 0 bs ≡ true → w ≡ bs
 has_is w bs h = let r = has_reads w 0 bs h in text_from_reads w bs (let n : length w ≡ length bs = omega (arith, r.0) in n) r.1
 
 pub named_is : {A : Type 0} (spelling : A → List ℕ) (names : List A) (w : List ℕ) (a : A) → named spelling names w ≡ Some a → w ≡ spelling a
-named_is spelling [] w a e = absurd (none_not_some a e)
+named_is spelling [] w a e = absurd (none-some a e)
 named_is spelling (b ∷ bs) w a e =
     ⊎_elim
     (λ h. let s : Some b ≡ Some a = sym (cond-true _ _ _ h) ∙ e in let q : b ≡ a = cc in has_is w (spelling b) h ∙ ap spelling q)

@@ -3,4 +3,4 @@
 
 mod spelling;
 
-pub use spelling::{CountRange, QuestionWord, Section, StepWord};
+pub use spelling::{CountRange, Keyword, QuestionWord, Section, StepWord};

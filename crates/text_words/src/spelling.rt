@@ -1,8 +1,21 @@
 //! The words that name sections, steps and questions.
-ghost use Rattle.std.specs.Prelude.{◌≡◌};
-ghost use Rattle.text_words.specs.Spelling.{section_of, step_of, question_of, numbers_of, range_of};
+ghost use Rattle.std.specs.Prelude.{◌≡◌, ℕ, List};
+ghost use Rattle.text_words.specs.Spelling.{named, section_word, sections, step_word, steps, question_word, questions, numbers_of, range_of};
 
 use gates::Gate;
+
+/// What words of one kind name.
+pub trait Keyword: Sized {
+    // how each of them is spelled
+    ghost spelling: { Self → List ℕ };
+
+    // all that have a word
+    ghost all: { List Self };
+
+    /// What this word names.
+    fn named(word: &[u8]) -> Option<Self>
+        ensures { result ≡ named spelling all word.now };
+}
 
 /// A section of a circuit text, named by the word before its count.
 #[derive(Clone, Copy, PartialEq, Eq)]
@@ -36,11 +49,12 @@ pub enum QuestionWord {
     Same,
 }
 
-impl Section {
-    /// The section that a word names.
-    pub fn named(word: &[u8]) -> Option<Section>
-        ensures { result ≡ section_of word.now }
-    {
+impl Keyword for Section {
+    ghost spelling = { section_word };
+
+    ghost all = { sections };
+
+    fn named(word: &[u8]) -> Option<Section> {
         match word {
             b"qubits" => Some(Section::Qubits),
             b"opens" => Some(Section::Opens),
@@ -49,7 +63,9 @@ impl Section {
             _ => None,
         }
     }
+}
 
+impl Section {
     /// The counts that the section may have.
     pub fn range(self) -> CountRange
         ensures { result ≡ range_of self }
@@ -69,11 +85,12 @@ impl Section {
     }
 }
 
-impl StepWord {
-    /// The step that a word names.
-    pub fn named(word: &[u8]) -> Option<StepWord>
-        ensures { result ≡ step_of word.now }
-    {
+impl Keyword for StepWord {
+    ghost spelling = { step_word };
+
+    ghost all = { steps };
+
+    fn named(word: &[u8]) -> Option<StepWord> {
         match word {
             b"x" => Some(StepWord::Gate(Gate::X)),
             b"z" => Some(StepWord::Gate(Gate::Z)),
@@ -90,7 +107,9 @@ impl StepWord {
             _ => None,
         }
     }
+}
 
+impl StepWord {
     /// How many numbers follow the word, at most 4: a gate's register and qubits, or a step's registers.
     pub fn numbers(self) -> u32
         ensures { result ≡ numbers_of self }
@@ -103,11 +122,12 @@ impl StepWord {
     }
 }
 
-impl QuestionWord {
-    /// The question that a word names.
-    pub fn named(word: &[u8]) -> Option<QuestionWord>
-        ensures { result ≡ question_of word.now }
-    {
+impl Keyword for QuestionWord {
+    ghost spelling = { question_word };
+
+    ghost all = { questions };
+
+    fn named(word: &[u8]) -> Option<QuestionWord> {
         match word {
             b"amp" => Some(QuestionWord::Amp),
             b"weight" => Some(QuestionWord::Weight),

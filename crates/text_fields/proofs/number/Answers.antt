@@ -1,15 +1,10 @@
-use Rattle.std.proofs.Common.{sym, refl, ap}
-use Rattle.text_grammar.specs.Syntaxes.{fitting, otherwise}
-use Rattle.text_fields.proofs.Moves.{reached_word, stuck_word}
+use Rattle.std.proofs.Common.{rules}
+use Rattle.text_numbers.specs.Numbers.{number_of}
+use Rattle.text_fields.proofs.Exits.{follows_told}
+use Rattle.text_fields.proofs.Words.{named_judged}
 use Rattle.text_grammar.specs.Syntaxes as syntax
 use Rattle.text_fields.proofs.number.Goals as goal
 
-pub returns-in-Some : goal.returns-in-Some
-unfolding syntax.number
-returns-in-Some c =
-    let h = sym c.in-Some.ensures.equals in
-    (_, (refl, reached_word c.word-word.ensures _ _ _ (ap fitting h) (ap (otherwise 0) h)))
-
-pub returns-in-None : goal.returns-in-None
-unfolding syntax.number
-returns-in-None c = λ k. stuck_word c.word-word.ensures _ _ _ (ap fitting (sym c.in-None.ensures.equals)) c.unexpected.ensures
+pub returns : goal.returns
+unfolding syntax.number syntax.telling
+returns c = follows_told _ _ _ c.told.ensures (λ w o h. named_judged number_of 0 w o (search rules))

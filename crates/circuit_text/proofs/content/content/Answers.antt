@@ -1,37 +1,56 @@
-use Rattle.std.proofs.Common.{ap, ◌∙◌}
-use Rattle.circuit_text.specs.Lines.{kind_of}
-use Rattle.circuit_text.proofs.Taken.{no_fault, taken}
+use Rattle.std.proofs.Common.{◌≡◌, sym, ap, ◌∙◌}
+use Rattle.text_reader.specs.Tokens.{first_word}
+use Rattle.text_reader.specs.Reading.{rest}
+use Rattle.circuit_text.proofs.Heads.{kind_of, section_kind, step_kind, question_kind, opening_kind}
+use Rattle.circuit_text.proofs.Heads.Kind.{SectionKind, StepKind, QuestionKind, OpeningKind}
+use Rattle.circuit_text.proofs.Taken.{always_read, taken}
 use Rattle.circuit_text.proofs.Contents.{sections, openings, steps, questions, section_content, opening_content, step_content, question_content}
 use Rattle.circuit_text.proofs.content.content.Goals as goal
 
-pub unreachable-requires : goal.unreachable-requires
+pub unwrap-count-requires : goal.unwrap-count-requires
 unfolding sections
-unreachable-requires c = no_fault (sections c.args.qubits c.in-Section.named) c.args.reader.now c.requires.before _ (c.kind.ensures ∙ ap kind_of c.peek.ensures) c.in-Section.is _ c.in-Err.ensures
+unwrap-count-requires c =
+    let k : kind_of (first_word (rest c.args.reader.now)) ≡ SectionKind c.in-Some.named = ap kind_of (sym c.peek-word.ensures) ∙ section_kind c.peek-word.result.now _ c.named.ensures _ c.in-Some.is in
+    always_read (sections c.args.qubits.number c.in-Some.named) c.args.reader.now c.requires k _ c.section.result c.section.ensures
 
-pub unreachable-requires-in-Err-step : goal.unreachable-requires-in-Err-step
-unfolding steps
-unreachable-requires-in-Err-step c = no_fault (steps c.args.qubits) c.args.reader.now c.requires.before _ (c.kind.ensures ∙ ap kind_of c.peek.ensures) c.in-Step.is _ c.in-Err-step.ensures
-
-pub unreachable-requires-in-Err-question : goal.unreachable-requires-in-Err-question
-unfolding questions
-unreachable-requires-in-Err-question c = no_fault (questions c.args.qubits) c.args.reader.now c.requires.before _ (c.kind.ensures ∙ ap kind_of c.peek.ensures) c.in-Question.is _ c.in-Err-question.ensures
-
-pub unreachable-requires-in-Err-opening : goal.unreachable-requires-in-Err-opening
-unfolding openings
-unreachable-requires-in-Err-opening c = no_fault (openings c.args.qubits) c.args.reader.now c.requires.before _ (c.kind.ensures ∙ ap kind_of c.peek.ensures) c.in-Opening.is _ c.in-Err-opening.ensures
-
-pub returns-in-Ok : goal.returns-in-Ok
+pub returns-in-Some : goal.returns-in-Some
 unfolding sections
-returns-in-Ok c = λ h. section_content _ _ (taken (sections c.args.qubits c.in-Section.named) c.args.reader.now h _ (c.kind.ensures ∙ ap kind_of c.peek.ensures) c.in-Section.is _ _ c.in-Ok.ensures)
+returns-in-Some c =
+    let k : kind_of (first_word (rest c.args.reader.now)) ≡ SectionKind c.in-Some.named = ap kind_of (sym c.peek-word.ensures) ∙ section_kind c.peek-word.result.now _ c.named.ensures _ c.in-Some.is in
+    λ h. section_content _ _ (taken (sections c.args.qubits.number c.in-Some.named) c.args.reader.now h k _ _ (rw c.unwrap-count.ensures at c.section.ensures))
 
-pub returns-in-Ok-step : goal.returns-in-Ok-step
+pub unwrap-requires : goal.unwrap-requires
 unfolding steps
-returns-in-Ok-step c = λ h. step_content _ (taken (steps c.args.qubits) c.args.reader.now h _ (c.kind.ensures ∙ ap kind_of c.peek.ensures) c.in-Step.is _ _ c.in-Ok-step.ensures)
+unwrap-requires c =
+    let k : kind_of (first_word (rest c.args.reader.now)) ≡ StepKind = ap kind_of (sym c.peek-word.ensures) ∙ step_kind c.peek-word.result.now _ c.named.ensures c.in_default.is _ c.named-in_default.ensures (sym c.is_some.ensures ∙ c.if-is_some.true) in
+    always_read (steps c.args.qubits.number) c.args.reader.now c.requires k _ c.step.result c.step.ensures
 
-pub returns-in-Ok-question : goal.returns-in-Ok-question
+pub returns-then-is_some : goal.returns-then-is_some
+unfolding steps
+returns-then-is_some c =
+    let k : kind_of (first_word (rest c.args.reader.now)) ≡ StepKind = ap kind_of (sym c.peek-word.ensures) ∙ step_kind c.peek-word.result.now _ c.named.ensures c.in_default.is _ c.named-in_default.ensures (sym c.is_some.ensures ∙ c.if-is_some.true) in
+    λ h. step_content _ (taken (steps c.args.qubits.number) c.args.reader.now h k _ _ (rw c.unwrap.ensures at c.step.ensures))
+
+pub unwrap-requires-then-is_some-2 : goal.unwrap-requires-then-is_some-2
 unfolding questions
-returns-in-Ok-question c = λ h. question_content _ (taken (questions c.args.qubits) c.args.reader.now h _ (c.kind.ensures ∙ ap kind_of c.peek.ensures) c.in-Question.is _ _ c.in-Ok-question.ensures)
+unwrap-requires-then-is_some-2 c =
+    let k : kind_of (first_word (rest c.args.reader.now)) ≡ QuestionKind = ap kind_of (sym c.peek-word.ensures) ∙ question_kind c.peek-word.result.now _ c.named.ensures c.in_default.is _ c.named-in_default.ensures (sym c.is_some.ensures ∙ c.if-is_some.false) _ c.named-else-is_some.ensures (sym c.is_some-else-is_some.ensures ∙ c.if-is_some-2.true) in
+    always_read (questions c.args.qubits.number) c.args.reader.now c.requires k _ c.question.result c.question.ensures
 
-pub returns-in-Ok-opening : goal.returns-in-Ok-opening
+pub returns-then-is_some-2 : goal.returns-then-is_some-2
+unfolding questions
+returns-then-is_some-2 c =
+    let k : kind_of (first_word (rest c.args.reader.now)) ≡ QuestionKind = ap kind_of (sym c.peek-word.ensures) ∙ question_kind c.peek-word.result.now _ c.named.ensures c.in_default.is _ c.named-in_default.ensures (sym c.is_some.ensures ∙ c.if-is_some.false) _ c.named-else-is_some.ensures (sym c.is_some-else-is_some.ensures ∙ c.if-is_some-2.true) in
+    λ h. question_content _ (taken (questions c.args.qubits.number) c.args.reader.now h k _ _ (rw c.unwrap-then-is_some-2.ensures at c.question.ensures))
+
+pub unwrap-requires-else-is_some-2 : goal.unwrap-requires-else-is_some-2
 unfolding openings
-returns-in-Ok-opening c = λ h. opening_content _ (taken (openings c.args.qubits) c.args.reader.now h _ (c.kind.ensures ∙ ap kind_of c.peek.ensures) c.in-Opening.is _ _ c.in-Ok-opening.ensures)
+unwrap-requires-else-is_some-2 c =
+    let k : kind_of (first_word (rest c.args.reader.now)) ≡ OpeningKind = ap kind_of (sym c.peek-word.ensures) ∙ opening_kind c.peek-word.result.now _ c.named.ensures c.in_default.is _ c.named-in_default.ensures (sym c.is_some.ensures ∙ c.if-is_some.false) _ c.named-else-is_some.ensures (sym c.is_some-else-is_some.ensures ∙ c.if-is_some-2.false) in
+    always_read (openings c.args.qubits.number) c.args.reader.now c.requires k _ c.opening.result c.opening.ensures
+
+pub returns-else-is_some-2 : goal.returns-else-is_some-2
+unfolding openings
+returns-else-is_some-2 c =
+    let k : kind_of (first_word (rest c.args.reader.now)) ≡ OpeningKind = ap kind_of (sym c.peek-word.ensures) ∙ opening_kind c.peek-word.result.now _ c.named.ensures c.in_default.is _ c.named-in_default.ensures (sym c.is_some.ensures ∙ c.if-is_some.false) _ c.named-else-is_some.ensures (sym c.is_some-else-is_some.ensures ∙ c.if-is_some-2.false) in
+    λ h. opening_content _ (taken (openings c.args.qubits.number) c.args.reader.now h k _ _ (rw c.unwrap-else-is_some-2.ensures at c.opening.ensures))

@@ -1,4 +1,4 @@
-use mathlib.Core.Path.{sym, ap, ◌∙◌}
+use Rattle.std.proofs.Common.{sym, ap, ◌∙◌}
 use Rattle.text_grammar.specs.Circuits.Question.{amp}
 use Rattle.text_fields.proofs.Moves.{passed_on, passed_stuck}
 use Rattle.text_fields.proofs.Exits.{follows_stuck}

@@ -1,4 +1,4 @@
-use mathlib.Core.Path.{◌∙◌}
+use Rattle.std.proofs.Common.{◌∙◌}
 use Rattle.text_fields.proofs.Moves.{passed_on, passed_stuck}
 use Rattle.text_fields.proofs.Exits.{follows_stuck}
 use Rattle.text_grammar.specs.Syntaxes as syntax

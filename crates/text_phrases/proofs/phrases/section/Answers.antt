@@ -1,4 +1,4 @@
-use mathlib.Core.Path.{sym, ap, subst, ◌∙◌}
+use Rattle.std.proofs.Common.{sym, ap, subst, ◌∙◌}
 use Rattle.text_fields.specs.Reading.{onward, Counts}
 use Rattle.text_fields.proofs.Moves.{passed_on, passed_stuck}
 use Rattle.text_fields.proofs.Exits.{follows_stuck}

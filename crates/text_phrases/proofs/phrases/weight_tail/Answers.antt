@@ -1,4 +1,4 @@
-use mathlib.Core.Path.{sym, ◌∙◌}
+use Rattle.std.proofs.Common.{sym, ◌∙◌}
 use Rattle.text_grammar.specs.Circuits.Question.{weight}
 use Rattle.text_fields.proofs.Moves.{passed_on, passed_stuck}
 use Rattle.text_fields.proofs.Exits.{follows_stuck}

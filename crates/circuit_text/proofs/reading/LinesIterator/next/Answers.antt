@@ -19,10 +19,11 @@ returns-in-Ok c = record {
   goes = record { on = λ e. tt; keeps = search rules; rests = λ h. search rules };
 }
 
+pub invariant_of-qubits : goal.invariant_of-qubits
+invariant_of-qubits c = record { within = few_qubits _ _ (passed_here (goal.at.invariant_of-qubits c).In_default) }
+
 pub content-content-requires : goal.content-content-requires
-content-content-requires c =
-    let r = (goal.at.content-content-requires c).In_default in
-    record { few = few_qubits _ _ (passed_here r); before = before_line _ _ _ _ (comes r) }
+content-content-requires c = before_line _ _ _ _ (comes (goal.at.content-content-requires c).In_default)
 
 pub invariant_of-self : goal.invariant_of-self
 invariant_of-self c =
