@@ -1,6 +1,5 @@
 -- The number, value and layer of each fault of a simulator, and how it is written. A store's fault keeps its own.
-use Rattle.std.specs.Prelude.{ℕ, List, [], ◌∷◌, codes, decimal}
-use Rattle.exact.specs.Texts.{words}
+use Rattle.std.specs.Prelude.{ℕ, List}
 use Rattle.functions.specs.declared.faults.Layer.{Layer}
 use Rattle.functions.specs.declared.faults.Layer.TheVariants.{Simulator}
 use Rattle.functions.specs.Faults as store
@@ -40,6 +39,5 @@ layer_of (PowerTooHigh power) = Simulator
 layer_of (TooWide width) = Simulator
 layer_of (Store fault) = store.layer_of fault
 
--- refused, the number and the value
 abbrev pub refusal_text : SimulatorFault → List ℕ
-refusal_text e = words (codes "refused" ∷ (decimal (number_of e) ∷ (decimal (value_of e) ∷ [])))
+refusal_text e = store.refused (number_of e) (value_of e)

@@ -23,6 +23,9 @@ value_of (NoSpace limit) = limit
 abbrev pub layer_of : StoreFault → Layer
 layer_of e = Store
 
--- refused, the number and the value
+-- refused, a number and a value
+abbrev pub refused : ℕ → ℕ → List ℕ
+refused number value = words (codes "refused" ∷ decimal number ∷ decimal value ∷ [])
+
 abbrev pub refusal_text : StoreFault → List ℕ
-refusal_text e = words (codes "refused" ∷ (decimal (number_of e) ∷ (decimal (value_of e) ∷ [])))
+refusal_text e = refused (number_of e) (value_of e)
