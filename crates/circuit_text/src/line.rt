@@ -39,14 +39,12 @@ impl<'a> Line<'a> {
 fn offset(bytes: &[u8], nth: usize) -> usize
     ensures { result ≡ after_spaces nth bytes.now }
 {
-    let mut left = nth;
-    for (i, b) in bytes.iter().enumerate() {
-        if left == 0 {
-            return i;
-        }
-        if *b == b' ' {
-            left -= 1;
+    let mut rest = bytes;
+    for _ in 0..nth {
+        match rest.iter().position(|b| *b == b' ') {
+            Some(space) => rest = &rest[space + 1..],
+            None => return bytes.len(),
         }
     }
-    bytes.len()
+    bytes.len() - rest.len()
 }

@@ -199,8 +199,3 @@ module _ (v w : Meaning) (i h : ℕ) (m : ProductMade v w i (Ok h)) (r : Record)
           stand = λ k. subst (λ (c : List Table). StandFor w (recorded r k) c) (opened_columns_are n x l k ∙ ap (λ (j : ℕ). columns_of_state j (opened n x) k) same) (two_stand k);
         },
       )
-
--- what narrowing and opening lead to
-pub ruleset narrowing_steps = (narrowed_to_1, narrowed_to_0)
-
-pub ruleset opening_steps = (open_stopped, open_done)

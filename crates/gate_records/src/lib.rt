@@ -16,7 +16,6 @@ use records::{Excess, Record};
 use reductions::reduce;
 
 /// A product so far with a literal, or with its negative.
-#[tactic(auto, using(crate::proofs::Opening::narrowing_steps))]
 fn narrow<S: FunctionStore>(
     store: &mut S,
     product: u32,
@@ -51,7 +50,6 @@ fn index_product<S: FunctionStore>(store: &mut S, index: u32) -> Result<u32, Sto
 }
 
 /// The record of a register opened at an index: the component d is 1 there, and all else is 0.
-#[tactic(auto, using(crate::proofs::Opening::opening_steps))]
 pub fn open_at<S: FunctionStore>(store: &mut S, index: u32) -> Result<Record, StoreFault>
     requires order { S.ordered store.old }
     ensures order { S.ordered store.new }
@@ -99,7 +97,6 @@ pub fn apply<S: FunctionStore>(
 }
 
 /// In a store in order, the records of two states are equal exactly if the states are.
-#[tactic(auto, using(crate::proofs::Comparing::same_record_law))]
 pub fn same_record_laws()
     ensures { SameRecordLaws }
 {}

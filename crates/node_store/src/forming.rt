@@ -24,8 +24,7 @@ impl NodeStore {
             return Some(r);
         }
         let height = self.highest(simple);
-        let lows = self.halved(simple, height, false);
-        let highs = self.halved(simple, height, true);
+        let (lows, highs) = self.halved(simple, height);
         let low = self.form(lows)?;
         let high = self.form(highs)?;
         let r = self.nodes.join(height, low, high)?;

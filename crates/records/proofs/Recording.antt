@@ -80,6 +80,3 @@ widened r hs a b c d = record { slices = ap length a; handles = handles }
     handles B = b
     handles C = c
     handles D = d
-
--- what a trimmed width leads to
-pub ruleset recording_steps = (trimmed_high, trimmed_wide, trimmed_done)

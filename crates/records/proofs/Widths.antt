@@ -72,6 +72,3 @@ module _ (hs : Columns) (w : ℕ) (above : 1 < w) (few : w ≤ length hs.a) (b :
 pub trimming_one : (hs : Columns) (w : ℕ) → w ≡ 1 → Trimming hs w → LeastWidth hs 1
 unfolding Trimming LeastWidth trimmed_width
 trimming_one hs w e t v x laws h = sym (t v x laws h ∙ ap (trimmed_width x) e)
-
--- what the turns of the loop lead to
-pub ruleset trimming_steps = (trimming_none, trimming_more, trimming_stays, trimming_one)

@@ -34,7 +34,6 @@ fn same_slices(columns: &Columns, j: usize) -> bool
 }
 
 /// The least width: while in all four columns the top slice equals the next, it goes.
-#[tactic(auto, using(crate::proofs::Widths::trimming_steps))]
 fn least_width(columns: &Columns) -> SliceCount
     ensures some { 1 ≤ result.0 }
     ensures few { result.0 ≤ length columns.now.a }
@@ -83,7 +82,6 @@ impl Record {
     }
 
     /// The record of columns with a power, trimmed to the least width; or which of the two is too large.
-    #[tactic(auto, using(crate::proofs::Recording::recording_steps))]
     pub fn trimmed(columns: &Columns, power: RootTwoPower) -> Result<Record, Excess>
         ensures { ColumnsTrimmed columns.now power.0 result }
     {

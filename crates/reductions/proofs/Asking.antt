@@ -63,6 +63,3 @@ module _ (v w₁ w₂ : Meaning) (hs : Columns) where
         let g : Grew v w₂ (odd_a_c n x ∷ (odd_b_d n x ∷ [])) = grew_then (odd_a_c n x ∷ []) (odd_b_d n x ∷ []) p.0 q.0 in
         let zero : under w₂ 0 ≡ Some (constant n false) = under_0 w₂ ∙ ap (λ (s : Setting). Some (constant s.qubits false)) g.setting in
         (g, e ∙ ap₂ ◌&&◌ (same_by_handles w₂ laws k 0 (odd_a_c n x) (constant n false) (q.0.keeps k _ p.1) zero) (same_by_handles w₂ laws j 0 (odd_b_d n x) (constant n false) q.1 zero))
-
--- what the steps of `divisible` lead to
-pub ruleset asking_steps = (asked_stopped_a_c, asked_stopped_b_d, asked_both)

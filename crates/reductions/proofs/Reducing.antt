@@ -164,6 +164,3 @@ module _ (v u t w : Meaning) (start : Columns) (first : ℕ) (hs : Columns) (k :
         left_columns = b.left_columns ∙ columns_divide n (k - 1) b.y c.1;
         left_power = b.left_power ∙ power_divides n (k - 1) b.y c.1;
       }
-
--- what the turns of the loop lead to
-pub ruleset reducing_steps = (reducing_none, reducing_stopped_sums, reducing_stays, reducing_stopped_division, reducing_more, reducing_done)

@@ -16,7 +16,6 @@ pub use reduced::Reduced;
 
 /// Whether √2 divides every quadruple: makes the odd sums of the lowest slices, of a with c and of b with d, and asks
 /// whether both are the constant 0, which has handle 0.
-#[tactic(auto, using(crate::proofs::Asking::asking_steps))]
 pub fn divisible<S: FunctionStore>(store: &mut S, columns: &Columns) -> Result<bool, StoreFault>
     requires order { S.ordered store.old }
     ensures order { S.ordered store.new }
@@ -59,7 +58,6 @@ pub fn divide<S: FunctionStore>(store: &mut S, columns: &Columns) -> Result<Colu
 
 /// The normal form: while the power is above 0 and √2 divides every quadruple, divides and lowers the power. No slice goes
 /// from the top meanwhile.
-#[tactic(auto, using(crate::proofs::Reducing::reducing_steps))]
 pub fn reduce<S: FunctionStore>(
     store: &mut S,
     mut columns: Columns,

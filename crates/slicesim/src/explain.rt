@@ -5,9 +5,8 @@ use text_reader::{Place, TextFault};
 
 /// Writes the `refused` line on standard output, and a sentence on standard error.
 pub(crate) fn refuse(rt: &HostRuntime, fault: TextFault) -> io::Result<()> {
-    let number = fault.number();
+    println!(rt; "{fault}")?;
     let Place { line, column } = fault.place();
-    println!(rt; "refused {number} {line} {column}")?;
     match fault {
         TextFault::TooLong { .. } => eprintln!(rt; "The text has more than {MAX_BYTES} bytes."),
         TextFault::Unexpected { byte, .. } => {
@@ -22,18 +21,18 @@ pub(crate) fn refuse(rt: &HostRuntime, fault: TextFault) -> io::Result<()> {
     }
 }
 
-/// Ends the sentence with what begins with this byte.
-fn describe(rt: &HostRuntime, byte: u8) -> io::Result<()> {
-    match byte {
+/// Ends the sentence with what begins with this byte, or is the end.
+fn describe(rt: &HostRuntime, byte: Option<u8>) -> io::Result<()> {
+    match byte.unwrap_or(0) {
         0 => eprintln!(rt; "a zero byte, or the end, there."),
         b'\t' => eprintln!(rt; "a tab there."),
         b'\n' => eprintln!(rt; "a line end there."),
         b'\r' => eprintln!(rt; "a carriage return there."),
         b' ' => eprintln!(rt; "a space there."),
-        b'!'..=b'~' => {
-            let first = byte as char;
+        first @ b'!'..=b'~' => {
+            let first = first as char;
             eprintln!(rt; "that word, which begins with `{first}`.")
         }
-        _ => eprintln!(rt; "a word that begins with byte {byte}."),
+        other => eprintln!(rt; "a word that begins with byte {other}."),
     }
 }

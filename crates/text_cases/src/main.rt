@@ -3,7 +3,6 @@
 
 use circuit_text::{Form, check_form};
 use std::fs;
-use text_reader::Place;
 
 fn main(rt: HostRuntime) -> anyhow::Result<()> {
     run(&rt)
@@ -34,8 +33,8 @@ fn case(rt: &HostRuntime, name: &str) -> anyhow::Result<()> {
         Err(fault) => {
             let number = fault.number();
             let value = fault.value();
-            let Place { line, column } = fault.place();
-            println!(rt; "{name}: refused {number} {value} {line} {column}")?;
+            let place = fault.place();
+            println!(rt; "{name}: refused {number} {value} {place}")?;
         }
     }
     Ok(())

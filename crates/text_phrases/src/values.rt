@@ -12,7 +12,7 @@ pub struct Opening {
 #[derive(Clone, Copy)]
 pub struct Step {
     pub name: StepWord,
-    // kept: four places; an enum of steps would still have places for one to three qubits of a gate
+    // Four places: an enum of steps would still have places for one to three qubits of a gate.
     pub numbers: [u32; 4],
 }
 

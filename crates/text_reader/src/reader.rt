@@ -5,7 +5,7 @@ ghost use Rattle.text_reader.specs.Places.{place_after};
 use crate::place::Place;
 
 /// A reader over the bytes of a text. It stands before one of them, or at the end, and knows the place.
-// kept: text and position, and not only what is left, since the contracts say where in the whole text a reader stands
+// Text and position, and not only what is left: the contracts say where in the whole text a reader stands.
 #[derive(Drop)]
 pub struct Reader<'a> {
     pub(crate) text: &'a [u8],

@@ -27,32 +27,27 @@ halved-lows-requires t c =
     let b : Begun c.args.self.now c.args.question c.simplest-simple.result c.highest-height.result = record { order = c.requires.order; held = c.requires.held; positive = c.requires.positive; simplest = c.simplest-simple.ensures; unanswered = c.in_default.ensures; highest = c.highest-height.ensures } in
     some_height _ _ _ _ b
 
-pub halved-highs-requires : goal.halved-highs-requires
-halved-highs-requires t c =
-    let b : Begun c.args.self.now c.args.question c.simplest-simple.result c.highest-height.result = record { order = c.requires.order; held = c.requires.held; positive = c.requires.positive; simplest = c.simplest-simple.ensures; unanswered = c.in_default.ensures; highest = c.highest-height.ensures } in
-    some_height _ _ _ _ b
-
 -- the low half
 pub form-requires : goal.form-requires
 form-requires t c =
     let b : Begun c.args.self.now c.args.question c.simplest-simple.result c.highest-height.result = record { order = c.requires.order; held = c.requires.held; positive = c.requires.positive; simplest = c.simplest-simple.ensures; unanswered = c.in_default.ensures; highest = c.highest-height.ensures } in
-    (lows_fall _ _ _ _ b _ _ c.halved-lows.ensures c.halved-highs.ensures t c.decreases, (c.requires.order, lows_given _ _ _ _ b _ _ c.halved-lows.ensures c.halved-highs.ensures))
+    (lows_fall _ _ _ _ b _ _ c.halved-lows.ensures.low c.halved-lows.ensures.high t c.decreases, (c.requires.order, lows_given _ _ _ _ b _ _ c.halved-lows.ensures.low c.halved-lows.ensures.high))
 
 pub returns-in_err-low : goal.returns-in_err-low
 returns-in_err-low t c =
     let b : Begun c.args.self.now c.args.question c.simplest-simple.result c.highest-height.result = record { order = c.requires.order; held = c.requires.held; positive = c.requires.positive; simplest = c.simplest-simple.ensures; unanswered = c.in_default.ensures; highest = c.highest-height.ensures } in
-    rw c.from_residual.ensures (no_lows _ _ _ _ b _ _ c.halved-lows.ensures c.halved-highs.ensures c.form.new.self c.in_err-low.ensures)
+    rw c.from_residual.ensures (no_lows _ _ _ _ b _ _ c.halved-lows.ensures.low c.halved-lows.ensures.high c.form.new.self c.in_err-low.ensures)
 
 -- the high half
 pub form-requires-2 : goal.form-requires-2
 form-requires-2 t c =
     let b : Begun c.args.self.now c.args.question c.simplest-simple.result c.highest-height.result = record { order = c.requires.order; held = c.requires.held; positive = c.requires.positive; simplest = c.simplest-simple.ensures; unanswered = c.in_default.ensures; highest = c.highest-height.ensures } in
-    (highs_fall _ _ _ _ b _ _ c.halved-lows.ensures c.halved-highs.ensures c.form.new.self _ c.in_ok-low.ensures t c.decreases, (c.in_ok-low.ensures.order, highs_given_then _ _ _ _ b _ _ c.halved-lows.ensures c.halved-highs.ensures c.form.new.self _ c.in_ok-low.ensures))
+    (highs_fall _ _ _ _ b _ _ c.halved-lows.ensures.low c.halved-lows.ensures.high c.form.new.self _ c.in_ok-low.ensures t c.decreases, (c.in_ok-low.ensures.order, highs_given_then _ _ _ _ b _ _ c.halved-lows.ensures.low c.halved-lows.ensures.high c.form.new.self _ c.in_ok-low.ensures))
 
 pub returns-in_err-high : goal.returns-in_err-high
 returns-in_err-high t c =
     let b : Begun c.args.self.now c.args.question c.simplest-simple.result c.highest-height.result = record { order = c.requires.order; held = c.requires.held; positive = c.requires.positive; simplest = c.simplest-simple.ensures; unanswered = c.in_default.ensures; highest = c.highest-height.ensures } in
-    rw c.from_residual-in_err-high.ensures (no_highs _ _ _ _ b _ _ c.halved-lows.ensures c.halved-highs.ensures c.form.new.self _ c.in_ok-low.ensures c.form-2.new.self c.in_err-high.ensures)
+    rw c.from_residual-in_err-high.ensures (no_highs _ _ _ _ b _ _ c.halved-lows.ensures.low c.halved-lows.ensures.high c.form.new.self _ c.in_ok-low.ensures c.form-2.new.self c.in_err-high.ensures)
 
 -- the node
 pub join-requires : goal.join-requires
@@ -60,19 +55,19 @@ join-requires t c =
     let b : Begun c.args.self.now c.args.question c.simplest-simple.result c.highest-height.result = record { order = c.requires.order; held = c.requires.held; positive = c.requires.positive; simplest = c.simplest-simple.ensures; unanswered = c.in_default.ensures; highest = c.highest-height.ensures } in
     record {
       order = c.in_ok-high.ensures.order.nodes;
-      level = height_joins _ _ _ _ b _ _ c.halved-lows.ensures c.halved-highs.ensures c.form.new.self _ c.in_ok-low.ensures c.form-2.new.self _ c.in_ok-high.ensures;
-      lows = low_joins _ _ _ _ b _ _ c.halved-lows.ensures c.halved-highs.ensures c.form.new.self _ c.in_ok-low.ensures c.form-2.new.self _ c.in_ok-high.ensures;
-      highs = high_joins _ _ _ _ b _ _ c.halved-lows.ensures c.halved-highs.ensures c.form.new.self _ c.in_ok-low.ensures c.form-2.new.self _ c.in_ok-high.ensures;
+      level = height_joins _ _ _ _ b _ _ c.halved-lows.ensures.low c.halved-lows.ensures.high c.form.new.self _ c.in_ok-low.ensures c.form-2.new.self _ c.in_ok-high.ensures;
+      lows = low_joins _ _ _ _ b _ _ c.halved-lows.ensures.low c.halved-lows.ensures.high c.form.new.self _ c.in_ok-low.ensures c.form-2.new.self _ c.in_ok-high.ensures;
+      highs = high_joins _ _ _ _ b _ _ c.halved-lows.ensures.low c.halved-lows.ensures.high c.form.new.self _ c.in_ok-low.ensures c.form-2.new.self _ c.in_ok-high.ensures;
     }
 
 pub returns-in_err-r : goal.returns-in_err-r
 returns-in_err-r t c =
     let b : Begun c.args.self.now c.args.question c.simplest-simple.result c.highest-height.result = record { order = c.requires.order; held = c.requires.held; positive = c.requires.positive; simplest = c.simplest-simple.ensures; unanswered = c.in_default.ensures; highest = c.highest-height.ensures } in
     let j = c.in_err-r.ensures in
-    rw c.from_residual-in_err-r.ensures (no_node _ _ _ _ b _ _ c.halved-lows.ensures c.halved-highs.ensures c.form.new.self _ c.in_ok-low.ensures c.form-2.new.self _ c.in_ok-high.ensures c.join.new.self j.order j.grown j.joined.0 j.joined.1)
+    rw c.from_residual-in_err-r.ensures (no_node _ _ _ _ b _ _ c.halved-lows.ensures.low c.halved-lows.ensures.high c.form.new.self _ c.in_ok-low.ensures c.form-2.new.self _ c.in_ok-high.ensures c.join.new.self j.order j.grown j.joined.0 j.joined.1)
 
 pub returns : goal.returns
 returns t c =
     let b : Begun c.args.self.now c.args.question c.simplest-simple.result c.highest-height.result = record { order = c.requires.order; held = c.requires.held; positive = c.requires.positive; simplest = c.simplest-simple.ensures; unanswered = c.in_default.ensures; highest = c.highest-height.ensures } in
     let j = c.in_ok-r.ensures in
-    a_node _ _ _ _ b _ _ c.halved-lows.ensures c.halved-highs.ensures c.form.new.self _ c.in_ok-low.ensures c.form-2.new.self _ c.in_ok-high.ensures c.join.new.self j.order j.grown c.in_ok-r.r j.joined c.remember.new.self c.remember.ensures.sound
+    a_node _ _ _ _ b _ _ c.halved-lows.ensures.low c.halved-lows.ensures.high c.form.new.self _ c.in_ok-low.ensures c.form-2.new.self _ c.in_ok-high.ensures c.join.new.self j.order j.grown c.in_ok-r.r j.joined c.remember.new.self c.remember.ensures.sound
