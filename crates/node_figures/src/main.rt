@@ -32,7 +32,7 @@ fn report<F: Fn(&mut NodeStore) -> Result<u32, StoreFault>>(
     let mut store = empty(rt, 4096)?;
     let f = build(&mut store).map_err(refusal)?;
     let ones = store.ones(f).map_err(refusal)?;
-    store.keep(&[f]).map_err(refusal)?;
+    store.keep(&[f]).map_err(|_| anyhow!("keep was refused"))?;
     println!(rt; "{name}: {} nodes, {ones} ones", store.held())?;
     let needed = least_limit(rt, &build)?;
     println!(rt; "  needs a limit of {needed}")?;
@@ -75,8 +75,8 @@ fn empty(rt: &HostRuntime, limit: u32) -> anyhow::Result<NodeStore>
     Ok(NodeStore::new(words, 16))
 }
 
-fn refusal(fault: StoreFault) -> anyhow::Error {
-    anyhow!("a call was {fault}")
+fn refusal(_fault: StoreFault) -> anyhow::Error {
+    anyhow!("a call was refused")
 }
 
 // Whether an odd number of the qubits is 1.
