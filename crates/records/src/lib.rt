@@ -39,9 +39,9 @@ fn least_width(columns: &Columns) -> SliceCount
     ensures few { result.0 ≤ length columns.now.a }
     ensures least { LeastWidth columns.now result.0 }
 {
-    for width in (1..columns.slices().0).rev() {
-        if !same_slices(columns, width as usize - 1) {
-            return SliceCount(width + 1);
+    for top in (1..columns.slices().0).rev() {
+        if !same_slices(columns, top as usize - 1) {
+            return SliceCount(top + 1);
         }
     }
     SliceCount(1)

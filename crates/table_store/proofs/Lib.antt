@@ -4,4 +4,3 @@ mod Laid
 mod Asking
 mod Looking
 mod Fresh
-pub mod Around
