@@ -11,6 +11,7 @@ use exact::QubitCount;
 /// - word 3 of place b: the first handle of chain b.
 ///
 /// Words past those of the last place are not used.
+// Nodes are named by place and are no boxes: the words are handed over, and nothing allocates.
 #[derive(Drop)]
 pub struct NodeTable {
     pub(crate) qubits: QubitCount<16>,
