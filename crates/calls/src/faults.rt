@@ -38,6 +38,7 @@ impl From<StoreFault> for SimulatorFault {
     }
 }
 
+// Like `StoreFault` and `TextFault`, and without a trait for the three: no code takes any of them.
 impl SimulatorFault {
     /// The number of the refusal.
     pub fn number(self) -> u32

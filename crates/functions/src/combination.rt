@@ -1,7 +1,7 @@
 //! A combination of three functions.
 
 /// Three handles, and the rule that combines what they stand for.
-#[derive(Clone, Copy, PartialEq, Eq)]
+#[derive(Clone, Copy, Default, PartialEq, Eq)]
 pub struct Combination {
     pub rule: u8,
     pub f: u32,

@@ -56,6 +56,8 @@ impl<S: FunctionStore> FunctionStore for Memory<S> {
 
     ghost lawful = { λ s h. S.FunctionStore.lawful s.store h.below };
 
+    // A method that promises more than the trait has to say the trait's clauses again.
+
     /// Passes the call on.
     fn literal(&mut self, q: Qubit) -> Result<u32, StoreFault>
         requires { OrderedOver S.meaning S.ordered self.old }

@@ -11,6 +11,7 @@ use crate::table::{Branch, NodeTable, first_word};
 impl NodeTable {
     /// The handle that stands for two halves at a height: the half itself if they are one, else the node that has them, which
     /// is made if there is none. `None` if there is none and no place is free.
+    // Three numbers and not a `Branch`, for which callers have no other use.
     pub fn join(&mut self, height: u32, low: u32, high: u32) -> Option<u32>
         requires order { InOrder self.old }
         requires level { (0 < height) × (height ≤ self.old.qubits.number) }

@@ -76,6 +76,7 @@ impl NodeTable {
     }
 
     /// The half of a node where its qubit is 0.
+    // Two functions and not one with a bit: these are the names that diagrams have for the halves.
     #[tactic(auto, using(crate::proofs::Layouts::node_at), unfolding(crate::specs::Layout::diagram_of))]
     pub fn low(&self, h: u32) -> u32
         requires { 0 < (diagram_of self.now).height h }

@@ -9,6 +9,7 @@ use crate::making::MOST;
 use functions::StoreFault;
 
 /// The places whose handles are listed.
+// A flag for each place there can be: a set of them would allocate.
 #[derive(Drop)]
 pub(crate) struct Listed {
     pub(crate) places: [bool; MOST],

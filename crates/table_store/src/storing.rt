@@ -11,7 +11,8 @@ use functions::StoreFault;
 use table_words::PackedTable;
 
 impl TableStore {
-    // The handle of a function that is not constant, at a free place if it has none yet.
+    // The handle of a function that is not constant, at a free place if it has none yet. That the table is clean is no fact of
+    // its type, since a table does not know its number of qubits.
     fn store(&mut self, function: Marked) -> Result<u32, StoreFault>
         requires order { InOrder self.old }
         requires clean { Clean self.old.qubits.number function.table.words }
