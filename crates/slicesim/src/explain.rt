@@ -23,16 +23,16 @@ pub(crate) fn refuse(rt: &HostRuntime, fault: TextFault) -> io::Result<()> {
 
 /// Ends the sentence with what begins with this byte, or is the end.
 fn describe(rt: &HostRuntime, byte: Option<u8>) -> io::Result<()> {
-    match byte.unwrap_or(0) {
-        0 => eprintln!(rt; "a zero byte, or the end, there."),
-        b'\t' => eprintln!(rt; "a tab there."),
-        b'\n' => eprintln!(rt; "a line end there."),
-        b'\r' => eprintln!(rt; "a carriage return there."),
-        b' ' => eprintln!(rt; "a space there."),
-        first @ b'!'..=b'~' => {
+    match byte {
+        None | Some(0) => eprintln!(rt; "a zero byte, or the end, there."),
+        Some(b'\t') => eprintln!(rt; "a tab there."),
+        Some(b'\n') => eprintln!(rt; "a line end there."),
+        Some(b'\r') => eprintln!(rt; "a carriage return there."),
+        Some(b' ') => eprintln!(rt; "a space there."),
+        Some(first @ b'!'..=b'~') => {
             let first = first as char;
             eprintln!(rt; "that word, which begins with `{first}`.")
         }
-        other => eprintln!(rt; "a word that begins with byte {other}."),
+        Some(other) => eprintln!(rt; "a word that begins with byte {other}."),
     }
 }

@@ -19,7 +19,7 @@ pub(crate) enum Request {
 pub(crate) fn asked(rt: &HostRuntime) -> anyhow::Result<Request> {
     let mut args = env::args(rt)?.skip(1);
     let Some(first) = args.next() else {
-        return Ok(Request::Check(standard_input(rt)?));
+        return Ok(Request::Check(bytes_of(rt, rt.stdin())?));
     };
     if args.next().is_some() {
         return Err(anyhow!("there is more than one argument; --help says how to use slicesim"));
@@ -31,23 +31,15 @@ pub(crate) fn asked(rt: &HostRuntime) -> anyhow::Result<Request> {
     }
 }
 
-fn standard_input(rt: &HostRuntime) -> anyhow::Result<Vec<u8>> {
-    let mut text = Vec::new(rt.alloc());
-    rt.stdin().take(MOST_BYTES).read_to_end(&mut text)?;
-    Ok(text)
-}
-
 fn file(rt: &HostRuntime, path: &str) -> anyhow::Result<Vec<u8>> {
-    match bytes_of(rt, path) {
+    match File::open(rt, path).and_then(|file| bytes_of(rt, file)) {
         Ok(text) => Ok(text),
         Err(error) => Err(anyhow!(format!(in rt.alloc(); "cannot read {path}: {error}")?)),
     }
 }
 
-fn bytes_of(rt: &HostRuntime, path: &str) -> io::Result<Vec<u8>> {
+fn bytes_of<R: Read + Drop>(rt: &HostRuntime, input: R) -> io::Result<Vec<u8>> {
     let mut text = Vec::new(rt.alloc());
-    File::open(rt, path)?
-        .take(MOST_BYTES)
-        .read_to_end(&mut text)?;
+    input.take(MOST_BYTES).read_to_end(&mut text)?;
     Ok(text)
 }

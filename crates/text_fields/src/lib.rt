@@ -52,6 +52,7 @@ pub fn count(reader: &mut Reader, range: CountRange) -> Result<u32, TextFault>
 }
 
 /// The word of this section.
+// Tried: `told` with a closure that compares; the proof did not close.
 pub fn section_name(reader: &mut Reader, wanted: Section) -> Result<(), TextFault>
     ensures { Follows (syntax.section_name wanted) IsNothing reader.old reader.new result }
 {
@@ -81,6 +82,7 @@ pub fn bit(reader: &mut Reader) -> Result<bool, TextFault>
 }
 
 /// A word that names something, as that of a step or of a question.
+// Tried: `told(reader, K::named)`; no proof is made of a function whose result is a type parameter of the caller.
 pub fn keyword<K: Keyword>(reader: &mut Reader) -> Result<K, TextFault>
     ensures { (any : K) → Follows (syntax.telling (named K.spelling K.all) any) Is reader.old reader.new result }
 {
