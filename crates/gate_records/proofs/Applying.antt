@@ -65,7 +65,7 @@ built_weaker P Q v w fs (Ok x) f h = (h.0, f x h.1)
 built_weaker P Q v w fs (Err e) f h = h
 
 -- the terms of a gate's recipe are those of the table
-same_terms : (w : Meaning) (y : Columns) (n q : ℕ) (c : Table) (x : Four) (gate : Gate) → AllStand w y (λ j. term_column n q c x (term_of (recipe_of gate) j)) → (j : Component) → StandFor w (handles_of y j) (term_column n q c x (gate_term gate j))
+same_terms : (w : Meaning) (y : Columns 24) (n q : ℕ) (c : Table) (x : Four) (gate : Gate) → AllStand w y (λ j. term_column n q c x (term_of (recipe_of gate) j)) → (j : Component) → StandFor w (handles_of y j) (term_column n q c x (gate_term gate j))
 unfolding AllStand
 same_terms w y n q c x gate h A = h A
 same_terms w y n q c x gate h B = h B
@@ -73,7 +73,7 @@ same_terms w y n q c x gate h C = h C
 same_terms w y n q c x gate h D = h D
 
 -- the new columns, in the store that has the literals
-new_later : (v u w : Meaning) (fs : List Table) (gate : Gate) (qs : GateQubits) (hs : Columns) (l : Literals) (recipe : Recipe) (r : Result Columns StoreFault) → Grew v u fs → l.target.0 ≡ target (listed qs) → recipe ≡ recipe_of gate
+new_later : (v u w : Meaning) (fs : List Table) (gate : Gate) (qs : GateQubits) (hs : Columns 24) (l : Literals) (recipe : Recipe) (r : Result (Columns 24) StoreFault) → Grew v u fs → l.target.0 ≡ target (listed qs) → recipe ≡ recipe_of gate
     → NewColumnsMade u w hs l recipe r → (x : Four) → AllStand u hs (all_repeated x) → LiteralsStand u l (product_of_literals (qubits_of v) (controls (listed qs)))
     → Built u w (for_each (terms_of (qubits_of v) gate qs x) []) r (λ y. AllStand w y (new_columns (qubits_of v) (move gate qs) x))
 unfolding NewColumnsMade new_columns controls_product AllStand
@@ -88,7 +88,7 @@ new_later v u w fs gate qs hs l recipe r g named by m x h k =
     (m (all_repeated x) c h k))))
 
 -- the normal form, in the store that has the new columns
-reduced_later : (v u w : Meaning) (fs : List Table) (hs : Columns) (k : ℕ) (r : Result Reduced StoreFault) → Grew v u fs → ColumnsReduced u w hs k r → (y : Four) → AllStand u hs y
+reduced_later : (v u w : Meaning) (fs : List Table) (hs : Columns 24) (k : ℕ) (r : Result Reduced StoreFault) → Grew v u fs → ColumnsReduced u w hs k r → (y : Four) → AllStand u hs y
     → Built u w (reduction_plan (qubits_of v) k y) r (ReducedTo w (qubits_of v) k y)
 unfolding ColumnsReduced
 reduced_later v u w fs hs k r g m y h = subst (λ (s : Setting). Built u w (reduction_plan s.qubits k y) r (ReducedTo w s.qubits k y)) g.setting (m y h)
@@ -99,12 +99,12 @@ module _ (v w₁ w₂ w₃ : Meaning) (gate : Gate) (qs : GateQubits) (old : Rec
   apply_stopped_literals e m x h b =
       subst (λ (l : List Table). Stopped v w₁ l e) (plan_is (qubits_of v) gate qs old.power.0 x) (stopped_before (literals_of (qubits_of v) qs) _ (m b))
 
-  module _ (l : Literals) (m₁ : LiteralsMade v w₁ qs (Ok l)) (wide rs : Columns) (wider : Widened old wide) (tops : TopsRepeated wide rs) (recipe : Recipe) (by : recipe ≡ recipe_of gate) where
+  module _ (l : Literals) (m₁ : LiteralsMade v w₁ qs (Ok l)) (wide rs : Columns 24) (wider : Widened old wide) (tops : TopsRepeated wide rs) (recipe : Recipe) (by : recipe ≡ recipe_of gate) where
     named : Below (qubits_of v) (listed qs) → Grew v w₁ (literals_of (qubits_of v) qs) × LiteralsOf w₁ (qubits_of v) qs l
     unfolding LiteralsMade Built
     named b = m₁ b
 
-    new_made : (r : Result Columns StoreFault) → NewColumnsMade w₁ w₂ rs l recipe r → (x : Four) → RecordStands v old x → Below (qubits_of v) (listed qs)
+    new_made : (r : Result (Columns 24) StoreFault) → NewColumnsMade w₁ w₂ rs l recipe r → (x : Four) → RecordStands v old x → Below (qubits_of v) (listed qs)
         → Built w₁ w₂ (for_each (terms_of (qubits_of v) gate qs x) []) r (λ y. AllStand w₂ y (new_columns (qubits_of v) (move gate qs) x))
     new_made r m x h b =
         let a = named b in
@@ -117,7 +117,7 @@ module _ (v w₁ w₂ w₃ : Meaning) (gate : Gate) (qs : GateQubits) (old : Rec
         subst (λ (l : List Table). Stopped v w₂ l e) (plan_is (qubits_of v) gate qs old.power.0 x)
         (stopped_after (literals_of (qubits_of v) qs) _ (named b).0 (stopped_before (for_each (terms_of (qubits_of v) gate qs x) []) _ (new_made (Err e) m x h b)))
 
-    module _ (hs : Columns) (m₂ : NewColumnsMade w₁ w₂ rs l recipe (Ok hs)) (k : ℕ) (raised : k ≡ power_after (move gate qs) old.power.0) where
+    module _ (hs : Columns 24) (m₂ : NewColumnsMade w₁ w₂ rs l recipe (Ok hs)) (k : ℕ) (raised : k ≡ power_after (move gate qs) old.power.0) where
       columns_made : (x : Four) → RecordStands v old x → Below (qubits_of v) (listed qs)
           → Grew w₁ w₂ (for_each (terms_of (qubits_of v) gate qs x) []) × AllStand w₂ hs (new_columns (qubits_of v) (move gate qs) x)
       unfolding Built

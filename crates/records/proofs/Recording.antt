@@ -31,13 +31,13 @@ pub width_of_places : (w : ℕ) (hs : List ℕ) → w ≤ 24 → length (take w 
 width_of_places w hs l = length-take-le w (places hs) (simp (length-append, length-replicate) (omega (arith, l)))
 
 -- a record that is cut from columns
-pub cut_stands : (v : Meaning) (hs : Columns) (power : RootTwoPower) (width : SliceCount) (r : Record) (x : Four) → width.0 ≤ length hs.a → CutTo hs power width r → AllStand v hs x
+pub cut_stands : (v : Meaning) (hs : Columns 24) (power : RootTwoPower) (width : SliceCount) (r : Record) (x : Four) → width.0 ≤ length hs.a → CutTo hs power width r → AllStand v hs x
     → RecordStands v r (λ k. take width.0 (x k))
 unfolding AllStand RecordStands
 cut_stands v hs power width r x l c h k =
     rw (c.lowest k, lowest_places width.0 (handles_of hs k) (omega (arith, l, as_many hs k))) (stands_fewer v width.0 (handles_of hs k) (x k) (h k))
 
-module _ (hs : Columns) (power : RootTwoPower) (width : SliceCount) (few : width.0 ≤ length hs.a) (least : LeastWidth hs width.0) where
+module _ (hs : Columns 24) (power : RootTwoPower) (width : SliceCount) (few : width.0 ≤ length hs.a) (least : LeastWidth hs width.0) where
   pub trimmed_high : 40 < power.0 → ColumnsTrimmed hs power.0 (Err (Power power))
   unfolding ColumnsTrimmed
   trimmed_high l v x laws h = (refl, l)
@@ -57,12 +57,12 @@ module _ (hs : Columns) (power : RootTwoPower) (width : SliceCount) (few : width
       }
 
 -- the columns of a record stand for what it stands for
-pub widened_stands : (v : Meaning) (r : Record) (hs : Columns) (x : Four) → Widened r hs → RecordStands v r x → AllStand v hs x
+pub widened_stands : (v : Meaning) (r : Record) (hs : Columns 24) (x : Four) → Widened r hs → RecordStands v r x → AllStand v hs x
 unfolding AllStand RecordStands
 widened_stands v r hs x w h k = rw (w.handles k) (h k)
 
 -- the four parts of records, by component
-pub cut_to : (hs : Columns) (power : RootTwoPower) (width : SliceCount) (r : Record) → r.power ≡ power → length r.a ≡ width.0
+pub cut_to : (hs : Columns 24) (power : RootTwoPower) (width : SliceCount) (r : Record) → r.power ≡ power → length r.a ≡ width.0
     → r.a ≡ take width.0 (places hs.a) → r.b ≡ take width.0 (places hs.b) → r.c ≡ take width.0 (places hs.c) → r.d ≡ take width.0 (places hs.d) → CutTo hs power width r
 cut_to hs power width r p w a b c d = record { powered = p; wide = w; lowest = lowest }
   where
@@ -72,7 +72,7 @@ cut_to hs power width r p w a b c d = record { powered = p; wide = w; lowest = l
     lowest C = c
     lowest D = d
 
-pub widened : (r : Record) (hs : Columns) → hs.a ≡ r.a → hs.b ≡ r.b → hs.c ≡ r.c → hs.d ≡ r.d → Widened r hs
+pub widened : (r : Record) (hs : Columns 24) → hs.a ≡ r.a → hs.b ≡ r.b → hs.c ≡ r.c → hs.d ≡ r.d → Widened r hs
 widened r hs a b c d = record { slices = ap length a; handles = handles }
   where
     handles : (k : Component) → handles_of hs k ≡ recorded r k

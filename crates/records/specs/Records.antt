@@ -29,11 +29,11 @@ RecordStands v r x = (k : Component) → StandFor v (recorded r k) (x k)
 abbrev pub same_handles : List ℕ → ℕ → Bool
 same_handles hs j = slice_index hs j == slice_index hs (j + 1)
 
-abbrev pub all_same_handles : Columns → ℕ → Bool
+abbrev pub all_same_handles : Columns 24 → ℕ → Bool
 all_same_handles hs j = same_handles hs.a j && (same_handles hs.b j && (same_handles hs.c j && same_handles hs.d j))
 
 -- In every store in order in which the handles stand for columns, it is the width to which they are trimmed.
-unfoldable pub LeastWidth : Columns → ℕ → Type 0
+unfoldable pub LeastWidth : Columns 24 → ℕ → Type 0
 LeastWidth hs w = (v : Meaning) (x : Four) → Laws v → AllStand v hs x → w ≡ trimmed_width x (length hs.a)
 
 -- the 24 places of a column: its handles, and then 0
@@ -41,7 +41,7 @@ abbrev pub places : List ℕ → List ℕ
 places hs = hs ++ replicate (24 - length hs) 0
 
 -- the record of the lowest slices of columns
-pub record CutTo (hs : Columns) (power : RootTwoPower) (width : SliceCount) (r : Record) : Type 0 where
+pub record CutTo (hs : Columns 24) (power : RootTwoPower) (width : SliceCount) (r : Record) : Type 0 where
   pub powered : r.power ≡ power
   pub wide : length r.a ≡ width.0
   pub lowest : (k : Component) → recorded r k ≡ take width.0 (places (handles_of hs k))
@@ -58,10 +58,10 @@ TrimmedTo v k count x (Ok r) = Recorded v k count x r
 TrimmedTo v k count x (Err (Power p)) = (p.0 ≡ k) × (40 < k)
 TrimmedTo v k count x (Err (Width w)) = (w.0 ≡ trimmed_width x count) × (k ≤ 40) × (22 < trimmed_width x count)
 
-unfoldable pub ColumnsTrimmed : Columns → ℕ → Result Record Excess → Type 0
+unfoldable pub ColumnsTrimmed : Columns 24 → ℕ → Result Record Excess → Type 0
 ColumnsTrimmed hs k r = (v : Meaning) (x : Four) → Laws v → AllStand v hs x → TrimmedTo v k (length hs.a) x r
 
 -- columns with the handles of a record
-pub record Widened (r : Record) (hs : Columns) : Type 0 where
+pub record Widened (r : Record) (hs : Columns 24) : Type 0 where
   pub slices : length hs.a ≡ length r.a
   pub handles : (k : Component) → handles_of hs k ≡ recorded r k

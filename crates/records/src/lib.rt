@@ -23,7 +23,7 @@ fn same_next(column: &Column<24>, j: usize) -> bool
 }
 
 /// Whether slices j and j + 1 have the same handle in all four columns.
-fn same_slices(columns: &Columns, j: usize) -> bool
+fn same_slices(columns: &Columns<24>, j: usize) -> bool
     requires { j + 1 < length columns.now.a }
     ensures { result ≡ all_same_handles columns.now j }
 {
@@ -34,7 +34,7 @@ fn same_slices(columns: &Columns, j: usize) -> bool
 }
 
 /// The least width: while in all four columns the top slice equals the next, it goes.
-fn least_width(columns: &Columns) -> SliceCount
+fn least_width(columns: &Columns<24>) -> SliceCount
     ensures some { 1 ≤ result.0 }
     ensures few { result.0 ≤ length columns.now.a }
     ensures least { LeastWidth columns.now result.0 }
@@ -66,7 +66,7 @@ fn widen(column: &Column<22>) -> Column<24>
 
 impl Record {
     /// The record of the lowest slices of columns.
-    pub fn cut(columns: &Columns, power: RootTwoPower, width: SliceCount) -> Record
+    pub fn cut(columns: &Columns<24>, power: RootTwoPower, width: SliceCount) -> Record
         requires low { power.0 ≤ 40 }
         requires some { 1 ≤ width.0 }
         requires few { width.0 ≤ 22 }
@@ -82,7 +82,7 @@ impl Record {
     }
 
     /// The record of columns with a power, trimmed to the least width; or which of the two is too large.
-    pub fn trimmed(columns: &Columns, power: RootTwoPower) -> Result<Record, Excess>
+    pub fn trimmed(columns: &Columns<24>, power: RootTwoPower) -> Result<Record, Excess>
         ensures { ColumnsTrimmed columns.now power.0 result }
     {
         let width = least_width(columns);
