@@ -43,7 +43,7 @@ unfoldable pub OnColumns : Meaning → Meaning → Gate → GateQubits → Recor
 OnColumns v w gate qs old r =
     (x : Four) → RecordStands v old x → Below (qubits_of v) (listed qs)
     → Built v w (move_plan (qubits_of v) (move gate qs) old.power.0 x) r
-    (TrimmedTo w (moved_power (qubits_of v) (move gate qs) old.power.0 x) (suc (length old.a)) (moved_columns (qubits_of v) (move gate qs) old.power.0 x))
+    (TrimmedTo w (moved_power (qubits_of v) (move gate qs) old.power.0 x) (suc (length old.handles.a)) (moved_columns (qubits_of v) (move gate qs) old.power.0 x))
 
 -- the parts of a move's plan
 abbrev literals_of : ℕ → GateQubits → List Table
@@ -138,7 +138,7 @@ module _ (v w₁ w₂ w₃ : Meaning) (gate : Gate) (qs : GateQubits) (old : Rec
           subst (λ (l : List Table). Stopped v w₃ l e) (plan_is (qubits_of v) gate qs old.power.0 x)
           (stopped_after (literals_of (qubits_of v) qs) _ (named b).0 (stopped_after (for_each (terms_of (qubits_of v) gate qs x) []) _ (columns_made x h b).0 (reduced_made (Err e) m x h b)))
 
-      pub apply_done : (y : Reduced) → ColumnsReduced w₂ w₃ hs k (Ok y) → Laws w₃ → length y.columns.a ≡ suc (length old.a) → (a : Result Record Excess) → ColumnsTrimmed y.columns y.power.0 a → OnColumns v w₃ gate qs old (Ok a)
+      pub apply_done : (y : Reduced) → ColumnsReduced w₂ w₃ hs k (Ok y) → Laws w₃ → length y.columns.a ≡ suc (length old.handles.a) → (a : Result Record Excess) → ColumnsTrimmed y.columns y.power.0 a → OnColumns v w₃ gate qs old (Ok a)
       unfolding OnColumns Built ColumnsTrimmed moved_columns moved_power
       apply_done y m laws es a t x h b =
           let n = qubits_of v in
@@ -156,7 +156,7 @@ module _ (v w₁ w₂ w₃ : Meaning) (gate : Gate) (qs : GateQubits) (old : Rec
 -- what trimming answers, where the columns are those of a state in normal form
 as_state : (w : Meaning) (k count : ℕ) (x : Four) (t : State) (n : ℕ) → n ≡ qubits_of w → k ≡ t.power.0 → trimmed_width x count ≡ width t.quadruples → ((c : Component) → trimmed count x c ≡ columns_of_state n t c)
     → (a : Result Record Excess) → TrimmedTo w k count x a → RecordedState w t a
-unfolding RecordStands
+unfolding RecordStands AllStand
 as_state w k count x t n en ek ew ec (Ok r) h = record {
   powered = h.powered ∙ ek;
   wide = h.wide ∙ ew;
@@ -174,7 +174,7 @@ by_state v w gate qs old r m s of b =
     let n = qubits_of v in
     let x : Four = columns_of_state n s in
     subst (λ (u : ℕ). Built v w (move_plan n (move gate qs) s.power.0 x) r (TrimmedTo w (moved_power n (move gate qs) s.power.0 x) (suc u) (moved_columns n (move gate qs) s.power.0 x))) of.wide
-    (subst (λ (k : ℕ). Built v w (move_plan n (move gate qs) k x) r (TrimmedTo w (moved_power n (move gate qs) k x) (suc (length old.a)) (moved_columns n (move gate qs) k x))) of.powered
+    (subst (λ (k : ℕ). Built v w (move_plan n (move gate qs) k x) r (TrimmedTo w (moved_power n (move gate qs) k x) (suc (length old.handles.a)) (moved_columns n (move gate qs) k x))) of.powered
     (m x of.stand b))
 
 pub on_state : (v w : Meaning) (gate : Gate) (qs : GateQubits) (old : Record) (r : Result (Result Record Excess) StoreFault) → OnColumns v w gate qs old r → GateApplied v w gate qs old r

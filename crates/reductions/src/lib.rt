@@ -36,7 +36,10 @@ fn drop_lowest(column: &Column<24>) -> Column<24>
 
 /// Divided by √2: each top slice is repeated, the sums and differences are made, and their lowest slices go. Where √2 does
 /// not divide a quadruple, it is rounded down.
-pub fn divide<S: FunctionStore>(store: &mut S, columns: &Columns<24>) -> Result<Columns<24>, StoreFault>
+pub fn divide<S: FunctionStore>(
+    store: &mut S,
+    columns: &Columns<24>,
+) -> Result<Columns<24>, StoreFault>
     requires order { S.ordered store.old }
     requires room { length columns.now.a < 24 }
     ensures order { S.ordered store.new }
