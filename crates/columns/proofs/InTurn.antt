@@ -1,5 +1,5 @@
 -- Four plans, one for each component, made one after another.
-use Rattle.std.proofs.Common.{◌≡◌, List, [], ◌++◌, append_assoc}
+use Rattle.std.proofs.Common.{◌≡◌, ℕ, List, [], ◌++◌, append_assoc}
 use Rattle.functions.specs.declared.faults.StoreFault.{StoreFault}
 use Rattle.functions.specs.Tables.{Table}
 use Rattle.functions.specs.Meanings.{Meaning}
@@ -37,7 +37,7 @@ pub for_each_then : (plan : Component → List Table) (rest : List Table) → fo
 for_each_then plan rest = simp append_assoc
 
 -- four columns, each made after the other, stand together at the end
-pub four_stand : (w₁ w₂ w₃ w₄ : Meaning) (pb pc pd : List Table) → Grew w₁ w₂ pb → Grew w₂ w₃ pc → Grew w₃ w₄ pd → (y : Columns) (x : Four)
+pub four_stand : {N : ℕ} (w₁ w₂ w₃ w₄ : Meaning) (pb pc pd : List Table) → Grew w₁ w₂ pb → Grew w₂ w₃ pc → Grew w₃ w₄ pd → (y : Columns N) (x : Four)
     → StandFor w₁ y.a (x A) → StandFor w₂ y.b (x B) → StandFor w₃ y.c (x C) → StandFor w₄ y.d (x D) → AllStand w₄ y x
 unfolding AllStand
 four_stand w₁ w₂ w₃ w₄ pb pc pd gb gc gd y x ha hb hc hd A =

@@ -10,3 +10,4 @@ pub mod Later
 pub mod Flipping
 pub mod Adding
 pub mod Repeating
+pub mod Lowest

@@ -21,13 +21,13 @@ top_repeated v hs ss some h =
     rw (repeated_push hs 0 k e, repeated_push ss [] k l) (stand_for_push v hs ss (get_or hs k 0) (get_or ss k []) h (stand_for_at v hs ss k h (omega arith)))
 
 -- the column of a component, in two of four columns, with its top slice once more
-abbrev pub Repeats : Columns → Columns → Component → Type 0
+abbrev pub Repeats : {N : ℕ} → Columns N → Columns N → Component → Type 0
 Repeats hs r k = handles_of r k ≡ repeated (handles_of hs k)
 
-some_slices : (hs : Columns) (k : Component) → 1 ≤ length (handles_of hs k)
+some_slices : {N : ℕ} (hs : Columns N) (k : Component) → 1 ≤ length (handles_of hs k)
 some_slices hs k = omega (arith, hs.some, as_many hs k)
 
-pub tops_repeated : (hs r : Columns) → Repeats hs r A → Repeats hs r B → Repeats hs r C → Repeats hs r D → TopsRepeated hs r
+pub tops_repeated : {N : ℕ} (hs r : Columns N) → Repeats hs r A → Repeats hs r B → Repeats hs r C → Repeats hs r D → TopsRepeated hs r
 unfolding AllStand
 tops_repeated hs r a b c d = record {
   slices = ap length a ∙ length_repeated hs.a (omega (arith, hs.some));
@@ -41,11 +41,11 @@ tops_repeated hs r a b c d = record {
     each D = d
 
 -- four columns with their top slices once more are again equally wide
-pub level_tops : (hs : Columns) → length hs.a < 24
-    → (1 ≤ length (repeated hs.a)) × (length (repeated hs.a) ≤ 24) × (length (repeated hs.b) ≡ length (repeated hs.a)) × (length (repeated hs.c) ≡ length (repeated hs.a)) × (length (repeated hs.d) ≡ length (repeated hs.a))
+pub level_tops : {N : ℕ} (hs : Columns N) → length hs.a < N
+    → (N ≤ 24) × (1 ≤ length (repeated hs.a)) × (length (repeated hs.a) ≤ N) × (length (repeated hs.b) ≡ length (repeated hs.a)) × (length (repeated hs.c) ≡ length (repeated hs.a)) × (length (repeated hs.d) ≡ length (repeated hs.a))
 level_tops hs room =
     let a = length_repeated hs.a (some_slices hs A) in
     let b = length_repeated hs.b (some_slices hs B) in
     let c = length_repeated hs.c (some_slices hs C) in
     let d = length_repeated hs.d (some_slices hs D) in
-    rw (a, b, c, d) (omega arith, omega (arith, room), ap suc hs.level.0, ap suc hs.level.1, ap suc hs.level.2)
+    rw (a, b, c, d) (hs.most, omega arith, omega (arith, room), ap suc hs.level.0, ap suc hs.level.1, ap suc hs.level.2)

@@ -1,5 +1,5 @@
 -- Columns of handles: which slices they stand for, and what is made of them.
-use Rattle.std.specs.Prelude.{◌≡◌, ℕ, suc, ◌<◌, Bool, List, length, Some, Ok, Err, Result}
+use Rattle.std.specs.Prelude.{◌≡◌, ℕ, suc, ◌-◌, ◌<◌, Bool, List, ◌++◌, length, take, replicate, Some, Ok, Err, Result}
 use Rattle.exact.specs.declared.Qubit.{Qubit}
 use Rattle.functions.specs.declared.faults.StoreFault.{StoreFault}
 use Rattle.functions.specs.Tables.{Table, literal}
@@ -13,14 +13,14 @@ use Rattle.slicing.specs.Operations.{all_repeated, fixed_column, chosen_column, 
 use Rattle.columns.specs.declared.four.Columns.{Columns}
 
 -- the handles of a component's column
-abbrev pub handles_of : Columns → Component → List ℕ
+abbrev pub handles_of : {N : ℕ} → Columns N → Component → List ℕ
 handles_of x A = x.a
 handles_of x B = x.b
 handles_of x C = x.c
 handles_of x D = x.d
 
 -- The handles of four columns stand for the slices of x.
-unfoldable pub AllStand : Meaning → Columns → Four → Type 0
+unfoldable pub AllStand : {N : ℕ} → Meaning → Columns N → Four → Type 0
 AllStand v hs x = (k : Component) → StandFor v (handles_of hs k) (x k)
 
 -- The column answered, if any, has this number of slices; and so have the four columns answered.
@@ -28,7 +28,7 @@ abbrev pub Wide : ℕ → Result (List ℕ) StoreFault → Type 0
 Wide slices (Ok hs) = length hs ≡ slices
 Wide slices (Err e) = Unit {0}
 
-abbrev pub Sliced : ℕ → Result Columns StoreFault → Type 0
+abbrev pub Sliced : {N : ℕ} → ℕ → Result (Columns N) StoreFault → Type 0
 Sliced slices (Ok hs) = length hs.a ≡ slices
 Sliced slices (Err e) = Unit {0}
 
@@ -61,6 +61,15 @@ ColumnsAdded v w hp hq he r =
     → ColumnBuilt v w (sums_plan (qubits_of v) e e ps qs) (added (qubits_of v) e ps qs) r
 
 -- Each top slice stands there once more: nothing is made.
-pub record TopsRepeated (hs r : Columns) : Type 0 where
+pub record TopsRepeated {N : ℕ} (hs r : Columns N) : Type 0 where
   pub slices : length r.a ≡ suc (length hs.a)
   pub stand : (v : Meaning) (x : Four) → AllStand v hs x → AllStand v r (all_repeated x)
+
+-- the n places of a column: its handles, and then 0
+abbrev pub places : ℕ → List ℕ → List ℕ
+places n hs = hs ++ replicate (n - length hs) 0
+
+-- the lowest slices of four columns, as many as the width
+pub record LowestSlices {N M : ℕ} (hs : Columns N) (width : ℕ) (r : Columns M) : Type 0 where
+  pub slices : length r.a ≡ width
+  pub lowest : (k : Component) → handles_of r k ≡ take width (places N (handles_of hs k))

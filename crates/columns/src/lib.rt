@@ -2,8 +2,8 @@
 //! slice.
 #![tactic(auto)]
 
-ghost use Rattle.std.specs.Prelude.{◌≡◌, ◌<◌, ◌≤◌, length, min};
-ghost use Rattle.columns.specs.Columns.{handles_of, Wide, ColumnFixed, ColumnChosen, ColumnFlipped, ColumnsAdded, TopsRepeated};
+ghost use Rattle.std.specs.Prelude.{◌≡◌, ◌<◌, ◌≤◌, length, min, take};
+ghost use Rattle.columns.specs.Columns.{handles_of, Wide, ColumnFixed, ColumnChosen, ColumnFlipped, ColumnsAdded, TopsRepeated, places, LowestSlices};
 
 use adder::add_slice;
 use exact::{Qubit, SliceCount};
@@ -94,19 +94,33 @@ pub fn add_columns<S: FunctionStore, const N: usize>(
     Ok(sums)
 }
 
-impl Columns {
+/// The lowest handles of a column, as many as the width; past its slices, 0.
+fn lowest_handles<const N: usize, const M: usize>(
+    column: &Column<N>,
+    width: SliceCount,
+) -> Column<M>
+    requires within { width.0 ≤ N }
+    requires room { width.0 ≤ M }
+    ensures { result ≡ take width.0 (places N column.now) }
+{
+    let mut places = [0; N];
+    places[..column.len()].copy_from_slice(column.as_slice());
+    Column::from_slice(&places[..width.0 as usize])
+}
+
+impl<const N: usize> Columns<N> {
     /// The number of slices of each column.
     pub fn slices(&self) -> SliceCount
         ensures value { result.0 ≡ length self.now.a }
         ensures some { 1 ≤ result.0 }
-        ensures few { result.0 ≤ 24 }
+        ensures few { result.0 ≤ N }
     {
         SliceCount(self.a.len() as u32)
     }
 
     /// A component's column.
     // One of four, as in `Component::of` and `Recipe::term`: one generic struct is no plainer, as definitions name the fields.
-    pub fn column(&self, component: Component) -> Column<24>
+    pub fn column(&self, component: Component) -> Column<N>
         ensures value { result ≡ handles_of self.now component }
         ensures width { length result ≡ length self.now.a }
     {
@@ -119,8 +133,8 @@ impl Columns {
     }
 
     /// Each top slice once more. Nothing is made.
-    pub fn repeat_tops(&self) -> Columns
-        requires { length self.now.a < 24 }
+    pub fn repeat_tops(&self) -> Self
+        requires { length self.now.a < N }
         ensures { TopsRepeated self.now result }
     {
         Columns {
@@ -128,6 +142,22 @@ impl Columns {
             b: self.b.repeat_top(),
             c: self.c.repeat_top(),
             d: self.d.repeat_top(),
+        }
+    }
+
+    /// The lowest slices of each column, as many as the width; past its slices, 0. Nothing is made.
+    pub fn lowest<const M: usize>(&self, width: SliceCount) -> Columns<M>
+        requires most { M ≤ 24 }
+        requires some { 1 ≤ width.0 }
+        requires within { width.0 ≤ N }
+        requires room { width.0 ≤ M }
+        ensures { LowestSlices self.now width.0 result }
+    {
+        Columns {
+            a: lowest_handles(&self.a, width),
+            b: lowest_handles(&self.b, width),
+            c: lowest_handles(&self.c, width),
+            d: lowest_handles(&self.d, width),
         }
     }
 }

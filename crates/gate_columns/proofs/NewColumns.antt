@@ -26,7 +26,7 @@ plan n l recipe c x k = term_plan n l.target.0 c x (term_of recipe k)
 abbrev column : ℕ → Literals → Recipe → Table → Four → Component → Column
 column n l recipe c x k = term_column n l.target.0 c x (term_of recipe k)
 
-module _ (v w₁ w₂ w₃ w₄ : Meaning) (hs : Columns) (l : Literals) (recipe : Recipe) where
+module _ (v w₁ w₂ w₃ w₄ : Meaning) (hs : Columns 24) (l : Literals) (recipe : Recipe) where
   pub new_stopped_a : (e : StoreFault) → TermMade v w₁ hs l recipe.a (Err e) → NewColumnsMade v w₁ hs l recipe (Err e)
   unfolding NewColumnsMade TermMade Built
   new_stopped_a e m x c h k = stopped_in_a (plan (qubits_of v) l recipe c x) [] (m x c h k)
@@ -71,7 +71,7 @@ module _ (v w₁ w₂ w₃ w₄ : Meaning) (hs : Columns) (l : Literals) (recipe
             (term_later v w₃ w₄ _ hs l recipe.d (Err e) (until_c x c h k) m x c h k)
 
         -- the handles of all four
-        pub new_made : (y : Columns) → y.a ≡ ha → y.b ≡ hb → y.c ≡ hc → TermMade w₃ w₄ hs l recipe.d (Ok y.d) → NewColumnsMade v w₄ hs l recipe (Ok y)
+        pub new_made : (y : Columns 24) → y.a ≡ ha → y.b ≡ hb → y.c ≡ hc → TermMade w₃ w₄ hs l recipe.d (Ok y.d) → NewColumnsMade v w₄ hs l recipe (Ok y)
         unfolding NewColumnsMade Built
         new_made y ea eb ec m x c h k =
             let a = made_a x c h k in

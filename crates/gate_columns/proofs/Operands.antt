@@ -25,17 +25,17 @@ unfolding StandFor zero_column under
 zeros_stand v zero = refl
 zeros_stand v (suc w) = ap (λ (l : List (Option Table)). Some (constant (qubits_of v) false) ∷ l) (zeros_stand v w)
 
-pub operand_zero : (v : Meaning) (hs : Columns) (l : Literals) → OperandMade v v hs l Zero (Ok (replicate (length hs.a) 0))
+pub operand_zero : (v : Meaning) (hs : Columns 24) (l : Literals) → OperandMade v v hs l Zero (Ok (replicate (length hs.a) 0))
 unfolding OperandMade operand_plan operand_column AllStand Built
 operand_zero v hs l x c h k =
     (grew_none v, subst (λ (w : ℕ). StandFor v (replicate (length hs.a) 0) (zero_column (qubits_of v) w)) (sym (stand_for_length v hs.a (x A) (h A))) (zeros_stand v (length hs.a)))
 
 -- the handles of a component, by an equation
-component_stands : (v : Meaning) (hs : Columns) (x : Four) (k : Component) (p : List ℕ) → p ≡ handles_of hs k → AllStand v hs x → StandFor v p (x k)
+component_stands : (v : Meaning) (hs : Columns 24) (x : Four) (k : Component) (p : List ℕ) → p ≡ handles_of hs k → AllStand v hs x → StandFor v p (x k)
 unfolding AllStand
 component_stands v hs x k p e h = subst (λ (y : List ℕ). StandFor v y (x k)) (sym e) (h k)
 
-module _ (v w : Meaning) (hs : Columns) (l : Literals) where
+module _ (v w : Meaning) (hs : Columns 24) (l : Literals) where
   pub operand_old : (k : Component) (p : List ℕ) → p ≡ handles_of hs k → OperandMade v v hs l (Old k) (Ok p)
   unfolding OperandMade operand_plan operand_column Built
   operand_old k p e x c h m = (grew_none v, component_stands v hs x k p e h)
@@ -56,7 +56,7 @@ module _ (v w : Meaning) (hs : Columns) (l : Literals) where
   unfolding OperandMade operand_plan ColumnFlipped
   operand_stopped k p e y m x c h s = built_stopped _ _ v w (flip_plan (qubits_of v) l.target.0 (x k)) _ y (m (x k) (component_stands v hs x k p e h) s.inside s.of_target)
 
-pub operand_controlled : (v u w : Meaning) (hs : Columns) (l : Literals) (k : Component) (p f : List ℕ) → p ≡ handles_of hs k → ColumnFlipped v u p l.target l.literal (Ok f)
+pub operand_controlled : (v u w : Meaning) (hs : Columns 24) (l : Literals) (k : Component) (p f : List ℕ) → p ≡ handles_of hs k → ColumnFlipped v u p l.target l.literal (Ok f)
     → (r : Result (List ℕ) StoreFault) → ColumnChosen u w l.controls f p r → OperandMade v w hs l (Controlled k) r
 unfolding OperandMade operand_plan operand_column ColumnFlipped Built
 operand_controlled v u w hs l k p f e m₁ r m x c h s =

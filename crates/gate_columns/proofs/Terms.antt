@@ -24,7 +24,7 @@ use Rattle.gate_columns.specs.Gates.{LiteralsStand, FirstCarryMade, OperandMade,
 use Rattle.gate_columns.proofs.Naming.{literals_keep}
 
 -- the steps, in a store with the setting of v
-operand_later : (v u w : Meaning) (fs : List Table) (hs : Columns) (l : Literals) (o : Operand) (r : Result (List ℕ) StoreFault) → Grew v u fs → OperandMade u w hs l o r
+operand_later : (v u w : Meaning) (fs : List Table) (hs : Columns 24) (l : Literals) (o : Operand) (r : Result (List ℕ) StoreFault) → Grew v u fs → OperandMade u w hs l o r
     → (x : Four) (c : Table) → AllStand v hs x → LiteralsStand v l c
     → ColumnBuilt u w (operand_plan (qubits_of v) l.target.0 c x o) (operand_column (qubits_of v) l.target.0 c x o) r
 unfolding OperandMade
@@ -39,7 +39,7 @@ carry_later v u w fs l e r g m c k =
     subst (λ (s : Setting). Built u w (first_carry s.qubits l.target.0 c e ∷ []) r (λ h. under w h ≡ Some (first_carry s.qubits l.target.0 c e))) g.setting
     (m c (literals_keep v u fs g l c k))
 
-pub term_later : (v u w : Meaning) (fs : List Table) (hs : Columns) (l : Literals) (t : Term) (r : Result (List ℕ) StoreFault) → Grew v u fs → TermMade u w hs l t r
+pub term_later : (v u w : Meaning) (fs : List Table) (hs : Columns 24) (l : Literals) (t : Term) (r : Result (List ℕ) StoreFault) → Grew v u fs → TermMade u w hs l t r
     → (x : Four) (c : Table) → AllStand v hs x → LiteralsStand v l c
     → ColumnBuilt u w (term_plan (qubits_of v) l.target.0 c x t) (term_column (qubits_of v) l.target.0 c x t) r
 unfolding TermMade
@@ -47,11 +47,11 @@ term_later v u w fs hs l t r g m x c h k =
     subst (λ (s : Setting). ColumnBuilt u w (term_plan s.qubits l.target.0 c x t) (term_column s.qubits l.target.0 c x t) r) g.setting
     (m x c (all_keep v u fs g hs x h) (literals_keep v u fs g l c k))
 
-pub term_just : (v w : Meaning) (hs : Columns) (l : Literals) (o : Operand) (r : Result (List ℕ) StoreFault) → OperandMade v w hs l o r → TermMade v w hs l (Just o) r
+pub term_just : (v w : Meaning) (hs : Columns 24) (l : Literals) (o : Operand) (r : Result (List ℕ) StoreFault) → OperandMade v w hs l o r → TermMade v w hs l (Just o) r
 unfolding TermMade OperandMade term_plan term_column
 term_just v w hs l o r m x c h k = m x c h k
 
-module _ (v w₁ w₂ w₃ w₄ : Meaning) (hs : Columns) (l : Literals) (o p : Operand) (e : FirstCarry) where
+module _ (v w₁ w₂ w₃ w₄ : Meaning) (hs : Columns 24) (l : Literals) (o p : Operand) (e : FirstCarry) where
   pub term_stopped_first : (d : StoreFault) → OperandMade v w₁ hs l o (Err d) → TermMade v w₁ hs l (Add o p e) (Err d)
   unfolding TermMade OperandMade term_plan
   term_stopped_first d m x c h k = built_stopped _ _ v w₁ (operand_plan (qubits_of v) l.target.0 c x o) _ d (m x c h k)

@@ -54,17 +54,17 @@ FirstCarryMade v w l e r =
     → Built v w (first_carry (qubits_of v) l.target.0 c e ∷ []) r (λ h. under w h ≡ Some (first_carry (qubits_of v) l.target.0 c e))
 
 -- What an operand, a term and all four terms of a recipe answer, for handles of the columns x.
-unfoldable pub OperandMade : Meaning → Meaning → Columns → Literals → Operand → Result (List ℕ) StoreFault → Type 0
+unfoldable pub OperandMade : Meaning → Meaning → Columns 24 → Literals → Operand → Result (List ℕ) StoreFault → Type 0
 OperandMade v w hs l o r =
     (x : Four) (c : Table) → AllStand v hs x → LiteralsStand v l c
     → ColumnBuilt v w (operand_plan (qubits_of v) l.target.0 c x o) (operand_column (qubits_of v) l.target.0 c x o) r
 
-unfoldable pub TermMade : Meaning → Meaning → Columns → Literals → Term → Result (List ℕ) StoreFault → Type 0
+unfoldable pub TermMade : Meaning → Meaning → Columns 24 → Literals → Term → Result (List ℕ) StoreFault → Type 0
 TermMade v w hs l t r =
     (x : Four) (c : Table) → AllStand v hs x → LiteralsStand v l c
     → ColumnBuilt v w (term_plan (qubits_of v) l.target.0 c x t) (term_column (qubits_of v) l.target.0 c x t) r
 
-unfoldable pub NewColumnsMade : Meaning → Meaning → Columns → Literals → Recipe → Result Columns StoreFault → Type 0
+unfoldable pub NewColumnsMade : Meaning → Meaning → Columns 24 → Literals → Recipe → Result (Columns 24) StoreFault → Type 0
 NewColumnsMade v w hs l recipe r =
     (x : Four) (c : Table) → AllStand v hs x → LiteralsStand v l c
     → Built v w (for_each (λ k. term_plan (qubits_of v) l.target.0 c x (term_of recipe k)) []) r

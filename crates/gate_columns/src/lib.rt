@@ -90,7 +90,7 @@ pub fn first_carry<S: FunctionStore>(
 /// An operand's column.
 pub fn operand<S: FunctionStore>(
     store: &mut S,
-    columns: &Columns,
+    columns: &Columns<24>,
     literals: Literals,
     operand: Operand,
 ) -> Result<Column<24>, StoreFault>
@@ -126,7 +126,7 @@ pub fn operand<S: FunctionStore>(
 /// A new column.
 pub fn term<S: FunctionStore>(
     store: &mut S,
-    columns: &Columns,
+    columns: &Columns<24>,
     literals: Literals,
     term: Term,
 ) -> Result<Column<24>, StoreFault>
@@ -149,10 +149,10 @@ pub fn term<S: FunctionStore>(
 /// All four new columns of a recipe, one after the other.
 pub fn new_columns<S: FunctionStore>(
     store: &mut S,
-    columns: &Columns,
+    columns: &Columns<24>,
     literals: Literals,
     recipe: Recipe,
-) -> Result<Columns, StoreFault>
+) -> Result<Columns<24>, StoreFault>
     requires order { S.ordered store.old }
     ensures order { S.ordered store.new }
     ensures slices { Sliced (length columns.now.a) result }

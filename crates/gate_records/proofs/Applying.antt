@@ -43,7 +43,7 @@ unfoldable pub OnColumns : Meaning → Meaning → Gate → GateQubits → Recor
 OnColumns v w gate qs old r =
     (x : Four) → RecordStands v old x → Below (qubits_of v) (listed qs)
     → Built v w (move_plan (qubits_of v) (move gate qs) old.power.0 x) r
-    (TrimmedTo w (moved_power (qubits_of v) (move gate qs) old.power.0 x) (suc (length old.a)) (moved_columns (qubits_of v) (move gate qs) old.power.0 x))
+    (TrimmedTo w (moved_power (qubits_of v) (move gate qs) old.power.0 x) (suc (length old.handles.a)) (moved_columns (qubits_of v) (move gate qs) old.power.0 x))
 
 -- the parts of a move's plan
 abbrev literals_of : ℕ → GateQubits → List Table
@@ -65,7 +65,7 @@ built_weaker P Q v w fs (Ok x) f h = (h.0, f x h.1)
 built_weaker P Q v w fs (Err e) f h = h
 
 -- the terms of a gate's recipe are those of the table
-same_terms : (w : Meaning) (y : Columns) (n q : ℕ) (c : Table) (x : Four) (gate : Gate) → AllStand w y (λ j. term_column n q c x (term_of (recipe_of gate) j)) → (j : Component) → StandFor w (handles_of y j) (term_column n q c x (gate_term gate j))
+same_terms : (w : Meaning) (y : Columns 24) (n q : ℕ) (c : Table) (x : Four) (gate : Gate) → AllStand w y (λ j. term_column n q c x (term_of (recipe_of gate) j)) → (j : Component) → StandFor w (handles_of y j) (term_column n q c x (gate_term gate j))
 unfolding AllStand
 same_terms w y n q c x gate h A = h A
 same_terms w y n q c x gate h B = h B
@@ -73,7 +73,7 @@ same_terms w y n q c x gate h C = h C
 same_terms w y n q c x gate h D = h D
 
 -- the new columns, in the store that has the literals
-new_later : (v u w : Meaning) (fs : List Table) (gate : Gate) (qs : GateQubits) (hs : Columns) (l : Literals) (recipe : Recipe) (r : Result Columns StoreFault) → Grew v u fs → l.target.0 ≡ target (listed qs) → recipe ≡ recipe_of gate
+new_later : (v u w : Meaning) (fs : List Table) (gate : Gate) (qs : GateQubits) (hs : Columns 24) (l : Literals) (recipe : Recipe) (r : Result (Columns 24) StoreFault) → Grew v u fs → l.target.0 ≡ target (listed qs) → recipe ≡ recipe_of gate
     → NewColumnsMade u w hs l recipe r → (x : Four) → AllStand u hs (all_repeated x) → LiteralsStand u l (product_of_literals (qubits_of v) (controls (listed qs)))
     → Built u w (for_each (terms_of (qubits_of v) gate qs x) []) r (λ y. AllStand w y (new_columns (qubits_of v) (move gate qs) x))
 unfolding NewColumnsMade new_columns controls_product AllStand
@@ -88,7 +88,7 @@ new_later v u w fs gate qs hs l recipe r g named by m x h k =
     (m (all_repeated x) c h k))))
 
 -- the normal form, in the store that has the new columns
-reduced_later : (v u w : Meaning) (fs : List Table) (hs : Columns) (k : ℕ) (r : Result Reduced StoreFault) → Grew v u fs → ColumnsReduced u w hs k r → (y : Four) → AllStand u hs y
+reduced_later : (v u w : Meaning) (fs : List Table) (hs : Columns 24) (k : ℕ) (r : Result Reduced StoreFault) → Grew v u fs → ColumnsReduced u w hs k r → (y : Four) → AllStand u hs y
     → Built u w (reduction_plan (qubits_of v) k y) r (ReducedTo w (qubits_of v) k y)
 unfolding ColumnsReduced
 reduced_later v u w fs hs k r g m y h = subst (λ (s : Setting). Built u w (reduction_plan s.qubits k y) r (ReducedTo w s.qubits k y)) g.setting (m y h)
@@ -99,12 +99,12 @@ module _ (v w₁ w₂ w₃ : Meaning) (gate : Gate) (qs : GateQubits) (old : Rec
   apply_stopped_literals e m x h b =
       subst (λ (l : List Table). Stopped v w₁ l e) (plan_is (qubits_of v) gate qs old.power.0 x) (stopped_before (literals_of (qubits_of v) qs) _ (m b))
 
-  module _ (l : Literals) (m₁ : LiteralsMade v w₁ qs (Ok l)) (wide rs : Columns) (wider : Widened old wide) (tops : TopsRepeated wide rs) (recipe : Recipe) (by : recipe ≡ recipe_of gate) where
+  module _ (l : Literals) (m₁ : LiteralsMade v w₁ qs (Ok l)) (wide rs : Columns 24) (wider : Widened old wide) (tops : TopsRepeated wide rs) (recipe : Recipe) (by : recipe ≡ recipe_of gate) where
     named : Below (qubits_of v) (listed qs) → Grew v w₁ (literals_of (qubits_of v) qs) × LiteralsOf w₁ (qubits_of v) qs l
     unfolding LiteralsMade Built
     named b = m₁ b
 
-    new_made : (r : Result Columns StoreFault) → NewColumnsMade w₁ w₂ rs l recipe r → (x : Four) → RecordStands v old x → Below (qubits_of v) (listed qs)
+    new_made : (r : Result (Columns 24) StoreFault) → NewColumnsMade w₁ w₂ rs l recipe r → (x : Four) → RecordStands v old x → Below (qubits_of v) (listed qs)
         → Built w₁ w₂ (for_each (terms_of (qubits_of v) gate qs x) []) r (λ y. AllStand w₂ y (new_columns (qubits_of v) (move gate qs) x))
     new_made r m x h b =
         let a = named b in
@@ -117,7 +117,7 @@ module _ (v w₁ w₂ w₃ : Meaning) (gate : Gate) (qs : GateQubits) (old : Rec
         subst (λ (l : List Table). Stopped v w₂ l e) (plan_is (qubits_of v) gate qs old.power.0 x)
         (stopped_after (literals_of (qubits_of v) qs) _ (named b).0 (stopped_before (for_each (terms_of (qubits_of v) gate qs x) []) _ (new_made (Err e) m x h b)))
 
-    module _ (hs : Columns) (m₂ : NewColumnsMade w₁ w₂ rs l recipe (Ok hs)) (k : ℕ) (raised : k ≡ power_after (move gate qs) old.power.0) where
+    module _ (hs : Columns 24) (m₂ : NewColumnsMade w₁ w₂ rs l recipe (Ok hs)) (k : ℕ) (raised : k ≡ power_after (move gate qs) old.power.0) where
       columns_made : (x : Four) → RecordStands v old x → Below (qubits_of v) (listed qs)
           → Grew w₁ w₂ (for_each (terms_of (qubits_of v) gate qs x) []) × AllStand w₂ hs (new_columns (qubits_of v) (move gate qs) x)
       unfolding Built
@@ -138,7 +138,7 @@ module _ (v w₁ w₂ w₃ : Meaning) (gate : Gate) (qs : GateQubits) (old : Rec
           subst (λ (l : List Table). Stopped v w₃ l e) (plan_is (qubits_of v) gate qs old.power.0 x)
           (stopped_after (literals_of (qubits_of v) qs) _ (named b).0 (stopped_after (for_each (terms_of (qubits_of v) gate qs x) []) _ (columns_made x h b).0 (reduced_made (Err e) m x h b)))
 
-      pub apply_done : (y : Reduced) → ColumnsReduced w₂ w₃ hs k (Ok y) → Laws w₃ → length y.columns.a ≡ suc (length old.a) → (a : Result Record Excess) → ColumnsTrimmed y.columns y.power.0 a → OnColumns v w₃ gate qs old (Ok a)
+      pub apply_done : (y : Reduced) → ColumnsReduced w₂ w₃ hs k (Ok y) → Laws w₃ → length y.columns.a ≡ suc (length old.handles.a) → (a : Result Record Excess) → ColumnsTrimmed y.columns y.power.0 a → OnColumns v w₃ gate qs old (Ok a)
       unfolding OnColumns Built ColumnsTrimmed moved_columns moved_power
       apply_done y m laws es a t x h b =
           let n = qubits_of v in
@@ -156,7 +156,7 @@ module _ (v w₁ w₂ w₃ : Meaning) (gate : Gate) (qs : GateQubits) (old : Rec
 -- what trimming answers, where the columns are those of a state in normal form
 as_state : (w : Meaning) (k count : ℕ) (x : Four) (t : State) (n : ℕ) → n ≡ qubits_of w → k ≡ t.power.0 → trimmed_width x count ≡ width t.quadruples → ((c : Component) → trimmed count x c ≡ columns_of_state n t c)
     → (a : Result Record Excess) → TrimmedTo w k count x a → RecordedState w t a
-unfolding RecordStands
+unfolding RecordStands AllStand
 as_state w k count x t n en ek ew ec (Ok r) h = record {
   powered = h.powered ∙ ek;
   wide = h.wide ∙ ew;
@@ -174,7 +174,7 @@ by_state v w gate qs old r m s of b =
     let n = qubits_of v in
     let x : Four = columns_of_state n s in
     subst (λ (u : ℕ). Built v w (move_plan n (move gate qs) s.power.0 x) r (TrimmedTo w (moved_power n (move gate qs) s.power.0 x) (suc u) (moved_columns n (move gate qs) s.power.0 x))) of.wide
-    (subst (λ (k : ℕ). Built v w (move_plan n (move gate qs) k x) r (TrimmedTo w (moved_power n (move gate qs) k x) (suc (length old.a)) (moved_columns n (move gate qs) k x))) of.powered
+    (subst (λ (k : ℕ). Built v w (move_plan n (move gate qs) k x) r (TrimmedTo w (moved_power n (move gate qs) k x) (suc (length old.handles.a)) (moved_columns n (move gate qs) k x))) of.powered
     (m x of.stand b))
 
 pub on_state : (v w : Meaning) (gate : Gate) (qs : GateQubits) (old : Record) (r : Result (Result Record Excess) StoreFault) → OnColumns v w gate qs old r → GateApplied v w gate qs old r

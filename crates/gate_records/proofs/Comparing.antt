@@ -9,6 +9,7 @@ use Rattle.functions.specs.Growth.{StandFor}
 use Rattle.slicing.specs.declared.Component.{Component}
 use Rattle.recipes.specs.Plans.{columns_of_state}
 use Rattle.recipes.proofs.Applied.{same_state}
+use Rattle.columns.specs.Columns.{AllStand}
 use Rattle.records.specs.declared.record.Record.{Record}
 use Rattle.records.specs.Records.{recorded, RecordStands}
 use Rattle.records.proofs.Equality.{same_value}
@@ -48,7 +49,7 @@ module _ (v : Meaning) (laws : Laws v) (s t : State) (ls : length s.quadruples �
     (x y : Record) (ox : RecordOf v s x) (oy : RecordOf v t y) where
   -- equal records are of the same columns
   same_columns : x ≡ y → (k : Component) → columns_of_state (qubits_of v) s k ≡ columns_of_state (qubits_of v) t k
-  unfolding RecordStands StandFor
+  unfolding RecordStands AllStand StandFor
   same_columns e k = same_functions _ _ (sym (ox.stand k) ∙ ap (λ (z : Record). map (under v) (recorded z k)) e ∙ oy.stand k)
 
   same_states : x ≡ y → s ≡ t
@@ -57,7 +58,7 @@ module _ (v : Meaning) (laws : Laws v) (s t : State) (ls : length s.quadruples �
 
   -- records of one state have the same handles
   same_places : s ≡ t → (k : Component) → recorded x k ≡ recorded y k
-  unfolding RecordStands StandFor
+  unfolding RecordStands AllStand StandFor
   same_places e k =
       same_handles v laws _ _ (columns_of_state (qubits_of v) s k) (ox.stand k) (oy.stand k ∙ ap (λ (z : State). map Some (columns_of_state (qubits_of v) z k)) (sym e))
 

@@ -19,6 +19,7 @@ use Rattle.slicing.specs.Operations.{zero_column}
 use Rattle.recipes.specs.Plans.{columns_of_state, narrowed, opening_from, product_from, opening_plan, opening_product, opened_columns}
 use Rattle.recipes.proofs.Openings.{opened_width, opened_columns_are}
 use Rattle.columns.proofs.Making.{literal_made}
+use Rattle.columns.specs.Columns.{AllStand}
 use Rattle.records.specs.declared.record.Record.{Record}
 use Rattle.records.specs.Records.{recorded, RecordStands}
 use Rattle.gate_records.specs.Moves.{Narrowed, ProductMade, RegisterOpened}
@@ -172,7 +173,7 @@ unfolding opened
 opened_power n x = refl
 
 module _ (v w : Meaning) (i h : ℕ) (m : ProductMade v w i (Ok h)) (r : Record) (zero_power : r.power.0 ≡ 0)
-    (ea : r.a ≡ replicate 2 0) (eb : r.b ≡ replicate 2 0) (ec : r.c ≡ replicate 2 0) (ed : r.d ≡ h ∷ (0 ∷ [])) where
+    (ea : r.handles.a ≡ replicate 2 0) (eb : r.handles.b ≡ replicate 2 0) (ec : r.handles.c ≡ replicate 2 0) (ed : r.handles.d ≡ h ∷ (0 ∷ [])) where
   product : Grew v w (opening_plan (qubits_of v) (bits (qubits_of v) i)) × (under w h ≡ Some (opening_product (qubits_of v) (bits (qubits_of v) i)))
   unfolding ProductMade Built
   product = m
@@ -187,7 +188,7 @@ module _ (v w : Meaning) (i h : ℕ) (m : ProductMade v w i (Ok h)) (r : Record)
   two_stand D = rw ed (product_stands w (qubits_of v) h _ same product.1)
 
   pub open_done : RegisterOpened v w i (Ok r)
-  unfolding RegisterOpened Built RecordStands
+  unfolding RegisterOpened Built RecordStands AllStand
   open_done =
       let n = qubits_of v in
       let x = bits n i in

@@ -19,7 +19,7 @@ use Rattle.records.specs.Records.{RecordStands}
 -- The record of a state: its power, its width, and handles of the slices of its columns at that width.
 pub record RecordOf (v : Meaning) (s : State) (r : Record) : Type 0 where
   pub powered : r.power.0 ≡ s.power.0
-  pub wide : length r.a ≡ width s.quadruples
+  pub wide : length r.handles.a ≡ width s.quadruples
   pub stand : RecordStands v r (columns_of_state (qubits_of v) s)
 
 -- ---- openings

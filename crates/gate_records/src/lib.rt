@@ -5,7 +5,7 @@ ghost use Rattle.std.specs.Prelude.{◌≡◌, ◌≤◌};
 ghost use Rattle.matrices.specs.Gates.{power_of};
 ghost use Rattle.gate_records.specs.Moves.{Narrowed, ProductMade, RegisterOpened, GateApplied, SameRecordLaws};
 
-use columns::Column;
+use columns::{Column, Columns};
 use exact::{Qubit, RootTwoPower};
 use functions::rules::CHOICE;
 use functions::{FunctionStore, StoreFault};
@@ -59,10 +59,12 @@ pub fn open_at<S: FunctionStore>(store: &mut S, index: u32) -> Result<Record, St
     let zero = Column::zeros(2);
     Ok(Record {
         power: RootTwoPower(0),
-        a: zero,
-        b: zero,
-        c: zero,
-        d: Column::from_slice(&[product, 0]),
+        handles: Columns {
+            a: zero,
+            b: zero,
+            c: zero,
+            d: Column::from_slice(&[product, 0]),
+        },
     })
 }
 

@@ -23,7 +23,7 @@ same_next_by_handles v laws hs ss j l h =
     (stand_for_at v hs ss j h (omega arith))
     (stand_for_at v hs ss (j + 1) h l ∙ ap (λ (i : ℕ). Some (get_or ss i [])) (add-one j))
 
-all_same_by_handles : (v : Meaning) → Laws v → (hs : Columns) (x : Four) (j : ℕ) → j + 1 < length hs.a → AllStand v hs x → all_same_handles hs j ≡ all_same_next x j
+all_same_by_handles : (v : Meaning) → Laws v → (hs : Columns 24) (x : Four) (j : ℕ) → j + 1 < length hs.a → AllStand v hs x → all_same_handles hs j ≡ all_same_next x j
 unfolding all_same_next AllStand
 all_same_by_handles v laws hs x j l h =
     ap₂ ◌&&◌ (at A) (ap₂ ◌&&◌ (at B) (ap₂ ◌&&◌ (at C) (at D)))
@@ -49,14 +49,14 @@ width_stays x (suc (suc w)) l e =
     cond-false (all_same_next x w) (trimmed_width x (suc w)) (suc (suc w)) (ap (all_same_next x) (sym p) ∙ e)
 
 -- Trimming from w slices on gives what trimming from all gives.
-unfoldable pub Trimming : Columns → ℕ → Type 0
+unfoldable pub Trimming : Columns 24 → ℕ → Type 0
 Trimming hs w = (v : Meaning) (x : Four) → Laws v → AllStand v hs x → trimmed_width x (length hs.a) ≡ trimmed_width x w
 
-pub trimming_none : (hs : Columns) (w : ℕ) → w ≡ length hs.a → Trimming hs w
+pub trimming_none : (hs : Columns 24) (w : ℕ) → w ≡ length hs.a → Trimming hs w
 unfolding Trimming
 trimming_none hs w e v x laws h = ap (trimmed_width x) (sym e)
 
-module _ (hs : Columns) (w : ℕ) (above : 1 < w) (few : w ≤ length hs.a) (b : Bool) (e : b ≡ all_same_handles hs (w - 1 - 1)) (t : Trimming hs w) where
+module _ (hs : Columns 24) (w : ℕ) (above : 1 < w) (few : w ≤ length hs.a) (b : Bool) (e : b ≡ all_same_handles hs (w - 1 - 1)) (t : Trimming hs w) where
   told : (v : Meaning) (x : Four) → Laws v → AllStand v hs x → all_same_next x (w - 1 - 1) ≡ b
   told v x laws h = sym (all_same_by_handles v laws hs x (w - 1 - 1) (omega arith) h) ∙ sym e
 
@@ -69,6 +69,6 @@ module _ (hs : Columns) (w : ℕ) (above : 1 < w) (few : w ≤ length hs.a) (b :
   trimming_stays width same is v x laws h = same ∙ sym (t v x laws h ∙ width_stays x w above (told v x laws h ∙ is))
 
 -- where one slice is left, it stays
-pub trimming_one : (hs : Columns) (w : ℕ) → w ≡ 1 → Trimming hs w → LeastWidth hs 1
+pub trimming_one : (hs : Columns 24) (w : ℕ) → w ≡ 1 → Trimming hs w → LeastWidth hs 1
 unfolding Trimming LeastWidth trimmed_width
 trimming_one hs w e t v x laws h = sym (t v x laws h ∙ ap (trimmed_width x) e)

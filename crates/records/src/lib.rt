@@ -1,8 +1,8 @@
 //! Records of registers: columns trimmed to the least width, in fixed places.
 #![tactic(auto)]
 
-ghost use Rattle.std.specs.Prelude.{◌≡◌, ◌+◌, ◌<◌, ◌≤◌, length, take, Decides};
-ghost use Rattle.records.specs.Records.{same_handles, all_same_handles, LeastWidth, places, CutTo, ColumnsTrimmed, Widened};
+ghost use Rattle.std.specs.Prelude.{◌≡◌, ◌+◌, ◌<◌, ◌≤◌, length, Decides};
+ghost use Rattle.records.specs.Records.{same_handles, all_same_handles, LeastWidth, CutTo, ColumnsTrimmed, Widened};
 
 use columns::{Column, Columns};
 use exact::{RootTwoPower, SliceCount};
@@ -23,7 +23,7 @@ fn same_next(column: &Column<24>, j: usize) -> bool
 }
 
 /// Whether slices j and j + 1 have the same handle in all four columns.
-fn same_slices(columns: &Columns, j: usize) -> bool
+fn same_slices(columns: &Columns<24>, j: usize) -> bool
     requires { j + 1 < length columns.now.a }
     ensures { result ≡ all_same_handles columns.now j }
 {
@@ -34,7 +34,7 @@ fn same_slices(columns: &Columns, j: usize) -> bool
 }
 
 /// The least width: while in all four columns the top slice equals the next, it goes.
-fn least_width(columns: &Columns) -> SliceCount
+fn least_width(columns: &Columns<24>) -> SliceCount
     ensures some { 1 ≤ result.0 }
     ensures few { result.0 ≤ length columns.now.a }
     ensures least { LeastWidth columns.now result.0 }
@@ -47,26 +47,9 @@ fn least_width(columns: &Columns) -> SliceCount
     SliceCount(1)
 }
 
-/// The lowest handles of a column, as many as the width; past its slices, 0.
-fn lowest_handles(column: &Column<24>, width: SliceCount) -> Column<22>
-    requires { width.0 ≤ 22 }
-    ensures { result ≡ take width.0 (places column.now) }
-{
-    let mut places = [0; 24];
-    places[..column.len()].copy_from_slice(column.as_slice());
-    Column::from_slice(&places[..width.0 as usize])
-}
-
-/// A column of at most 22 slices as one of at most 24.
-fn widen(column: &Column<22>) -> Column<24>
-    ensures { result ≡ column.now }
-{
-    Column::from_slice(column.as_slice())
-}
-
 impl Record {
     /// The record of the lowest slices of columns.
-    pub fn cut(columns: &Columns, power: RootTwoPower, width: SliceCount) -> Record
+    pub fn cut(columns: &Columns<24>, power: RootTwoPower, width: SliceCount) -> Record
         requires low { power.0 ≤ 40 }
         requires some { 1 ≤ width.0 }
         requires few { width.0 ≤ 22 }
@@ -74,15 +57,12 @@ impl Record {
     {
         Record {
             power,
-            a: lowest_handles(&columns.a, width),
-            b: lowest_handles(&columns.b, width),
-            c: lowest_handles(&columns.c, width),
-            d: lowest_handles(&columns.d, width),
+            handles: columns.lowest(width),
         }
     }
 
     /// The record of columns with a power, trimmed to the least width; or which of the two is too large.
-    pub fn trimmed(columns: &Columns, power: RootTwoPower) -> Result<Record, Excess>
+    pub fn trimmed(columns: &Columns<24>, power: RootTwoPower) -> Result<Record, Excess>
         ensures { ColumnsTrimmed columns.now power.0 result }
     {
         let width = least_width(columns);
@@ -104,22 +84,17 @@ impl Record {
 
     /// The number of slices of each component.
     pub fn width(&self) -> SliceCount
-        ensures value { result.0 ≡ length self.now.a }
+        ensures value { result.0 ≡ length self.now.handles.a }
         ensures some { 1 ≤ result.0 }
         ensures few { result.0 ≤ 22 }
     {
-        SliceCount(self.a.len() as u32)
+        self.handles.slices()
     }
 
     /// The record's columns.
-    pub fn columns(&self) -> Columns
+    pub fn columns(&self) -> Columns<24>
         ensures { Widened self.now result }
     {
-        Columns {
-            a: widen(&self.a),
-            b: widen(&self.b),
-            c: widen(&self.c),
-            d: widen(&self.d),
-        }
+        self.handles.lowest(self.width())
     }
 }

@@ -1,7 +1,7 @@
 //! A register's record.
-ghost use Rattle.std.specs.Prelude.{◌≡◌, ◌≤◌, length};
+ghost use Rattle.std.specs.Prelude.{◌≤◌};
 
-use columns::Column;
+use columns::Columns;
 use exact::RootTwoPower;
 
 /// A register's record: the power of √2, at most 40, and the handles of the slices of each component. All four columns have
@@ -9,12 +9,6 @@ use exact::RootTwoPower;
 #[derive(Clone, Copy, PartialEq, Eq)]
 pub struct Record {
     pub power: RootTwoPower,
-    pub a: Column<22>,
-    pub b: Column<22>,
-    pub c: Column<22>,
-    pub d: Column<22>,
+    pub handles: Columns<22>,
     ghost low: { power.0 ≤ 40 },
-    ghost some: { 1 ≤ length a },
-    ghost few: { length a ≤ 22 },
-    ghost level: { (length b ≡ length a) × (length c ≡ length a) × (length d ≡ length a) },
 }

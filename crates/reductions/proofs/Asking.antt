@@ -21,12 +21,12 @@ use Rattle.columns.proofs.Comparing.{same_by_handles}
 use Rattle.reductions.specs.Reductions.{AskedDivisible}
 
 -- the handle of a lowest slice
-lowest : (v : Meaning) (hs : Columns) (x : Four) → AllStand v hs x → (k : Component) → under v (get_or (handles_of hs k) 0 0) ≡ Some (get_or (x k) 0 [])
+lowest : (v : Meaning) (hs : Columns 24) (x : Four) → AllStand v hs x → (k : Component) → under v (get_or (handles_of hs k) 0 0) ≡ Some (get_or (x k) 0 [])
 unfolding AllStand
 lowest v hs x h k = stand_for_at v (handles_of hs k) (x k) 0 (h k) (omega (arith, hs.some, as_many hs k))
 
 -- the odd sum of two lowest slices, in a store with the setting of v
-odd_sum_made : (v u w : Meaning) (fs : List Table) (hs : Columns) (k j : Component) (r : Result ℕ StoreFault) → Grew v u fs → Made u w (combine_asked u 150 (get_or (handles_of hs k) 0 0) (get_or (handles_of hs j) 0 0) 0) r
+odd_sum_made : (v u w : Meaning) (fs : List Table) (hs : Columns 24) (k j : Component) (r : Result ℕ StoreFault) → Grew v u fs → Made u w (combine_asked u 150 (get_or (handles_of hs k) 0 0) (get_or (handles_of hs j) 0 0) 0) r
     → (x : Four) → AllStand v hs x → Built u w (lowest_odd_sum (qubits_of v) (x k) (x j) ∷ []) r (λ h. under w h ≡ Some (lowest_odd_sum (qubits_of v) (x k) (x j)))
 unfolding lowest_odd_sum
 odd_sum_made v u w fs hs k j r g m x h =
@@ -35,7 +35,7 @@ odd_sum_made v u w fs hs k j r g m x h =
     combination v u w 150 (get_or (handles_of hs k) 0 0) (get_or (handles_of hs j) 0 0) 0 (get_or (x k) 0 []) (get_or (x j) 0 []) (constant n false) (turned n (get_or (x k) 0 []) (get_or (x j) 0 [])) r g.setting
     (lowest u hs x h' k) (lowest u hs x h' j) (under_0 u ∙ ap (λ (s : Setting). Some (constant s.qubits false)) g.setting) (turned_rule n (get_or (x k) 0 []) (get_or (x j) 0 [])) m
 
-module _ (v w₁ w₂ : Meaning) (hs : Columns) where
+module _ (v w₁ w₂ : Meaning) (hs : Columns 24) where
   pub asked_stopped_a_c : (e : StoreFault) → Made v w₁ (combine_asked v 150 (get_or hs.a 0 0) (get_or hs.c 0 0) 0) (Err e) → AskedDivisible v w₁ hs (Err e)
   unfolding AskedDivisible odd_a_c
   asked_stopped_a_c e m x h = built_stopped _ _ v w₁ (lowest_odd_sum (qubits_of v) (x A) (x C) ∷ []) _ e (odd_sum_made v v w₁ [] hs A C (Err e) (grew_none v) m x h)

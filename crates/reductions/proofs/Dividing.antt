@@ -30,7 +30,7 @@ under_constant m false = under_0 m
 under_constant m true = under_1 m
 
 -- a sum or difference of two columns, in a store with the setting of v
-module _ (v u w : Meaning) (fs : List Table) (laws : Laws u) (g : Grew v u fs) (hs : Columns) where
+module _ (v u w : Meaning) (fs : List Table) (laws : Laws u) (g : Grew v u fs) (hs : Columns 24) where
   pub summed_later : (k : Component) (r : Result (List ℕ) StoreFault) → ColumnsAdded u w (handles_of hs (root_sum k).first) (handles_of hs (root_sum k).second) (constant_handle (root_sum k).minus) r
       → (x : Four) → AllStand v hs x → ColumnBuilt u w (summed_plan (qubits_of v) x (root_sum k)) (summed (qubits_of v) x (root_sum k)) r
   unfolding summed summed_plan addition_plan AllStand
@@ -55,7 +55,7 @@ half : (w : Meaning) (n : ℕ) (x : Four) (k : Component) (h out : List ℕ) →
 unfolding divided StandFor
 half w n x k h out e st = ap (map (under w)) e ∙ sym (drop-map (under w) 1 h) ∙ ap (drop 1) st ∙ drop-map Some 1 (sum n x k)
 
-module _ (v w₁ w₂ w₃ w₄ : Meaning) (hs rs : Columns) (tops : TopsRepeated hs rs) (l₀ : Laws v) where
+module _ (v w₁ w₂ w₃ w₄ : Meaning) (hs rs : Columns 24) (tops : TopsRepeated hs rs) (l₀ : Laws v) where
   pub divide_stopped_a : (e : StoreFault) → ColumnsAdded v w₁ rs.b rs.d 1 (Err e) → ColumnsDivided v w₁ hs (Err e)
   unfolding ColumnsDivided division_plan Built
   divide_stopped_a e m x h = stopped_in_a (plan (qubits_of v) x) [] (summed_later v v w₁ [] l₀ (grew_none v) rs A (Err e) m (all_repeated x) (tops.stand v x h))
@@ -100,7 +100,7 @@ module _ (v w₁ w₂ w₃ w₄ : Meaning) (hs rs : Columns) (tops : TopsRepeate
             (summed_later v w₃ w₄ _ l₃ (until_c x h) rs D (Err e) m (all_repeated x) (tops.stand v x h))
 
         -- y has the handles of all four sums without the lowest
-        pub divide_made : (hd : List ℕ) → ColumnsAdded w₃ w₄ rs.c rs.a 1 (Ok hd) → (y : Columns)
+        pub divide_made : (hd : List ℕ) → ColumnsAdded w₃ w₄ rs.c rs.a 1 (Ok hd) → (y : Columns 24)
             → y.a ≡ drop 1 ha → y.b ≡ drop 1 hb → y.c ≡ drop 1 hc → y.d ≡ drop 1 hd → ColumnsDivided v w₄ hs (Ok y)
         unfolding ColumnsDivided division_plan Built
         divide_made hd m y ea eb ec ed x h =

@@ -18,7 +18,7 @@ use Rattle.reductions.specs.declared.reduced.Reduced.{Reduced}
 use Rattle.reductions.specs.Reductions.{AskedDivisible, division_plan, ColumnsDivided, ColumnsReduced}
 
 -- So far: what was made, and the columns y with the power k, whose normal form is that of x with the first power.
-pub record LeftOver (v w : Meaning) (first : ℕ) (x : Four) (hs : Columns) (k : ℕ) : Type 0 where
+pub record LeftOver (v w : Meaning) (first : ℕ) (x : Four) (hs : Columns 24) (k : ℕ) : Type 0 where
   pub made : List Table
   pub y : Four
   pub grew : Grew v w made
@@ -27,15 +27,15 @@ pub record LeftOver (v w : Meaning) (first : ℕ) (x : Four) (hs : Columns) (k :
   pub left_columns : reduced_columns (qubits_of v) first x ≡ reduced_columns (qubits_of v) k y
   pub left_power : reduced_power (qubits_of v) first x ≡ reduced_power (qubits_of v) k y
 
-unfoldable pub Reducing : Meaning → Meaning → Columns → ℕ → Columns → ℕ → Type 0
+unfoldable pub Reducing : Meaning → Meaning → Columns 24 → ℕ → Columns 24 → ℕ → Type 0
 Reducing v w start first hs k = (x : Four) → AllStand v start x → LeftOver v w first x hs k
 
-pub reducing_none : (v : Meaning) (hs : Columns) (k : ℕ) → Reducing v v hs k hs k
+pub reducing_none : (v : Meaning) (hs : Columns 24) (k : ℕ) → Reducing v v hs k hs k
 unfolding Reducing
 reducing_none v hs k x h = record { made = []; y = x; grew = grew_none v; stand = h; left_plan = refl; left_columns = refl; left_power = refl }
 
 -- at power 0 nothing is left
-pub reducing_done : (v w : Meaning) (start : Columns) (first : ℕ) (r : Reduced) (k : ℕ) → k ≡ 0 → r.power.0 ≡ 0 → Reducing v w start first r.columns k → ColumnsReduced v w start first (Ok r)
+pub reducing_done : (v w : Meaning) (start : Columns 24) (first : ℕ) (r : Reduced) (k : ℕ) → k ≡ 0 → r.power.0 ≡ 0 → Reducing v w start first r.columns k → ColumnsReduced v w start first (Ok r)
 unfolding Reducing ColumnsReduced Built reduction_plan reduced_columns reduced_power
 reducing_done v w start first r k e p a x h =
     let b = subst (λ (j : ℕ). LeftOver v w first x r.columns j) e (a x h) in (
@@ -44,13 +44,13 @@ reducing_done v w start first r k e p a x h =
     )
 
 -- both odd sums, in the store that has grown
-asked_later : (v u w : Meaning) (fs : List Table) (hs : Columns) (r : Result Bool StoreFault) → Grew v u fs → AskedDivisible u w hs r → (y : Four) → AllStand u hs y
+asked_later : (v u w : Meaning) (fs : List Table) (hs : Columns 24) (r : Result Bool StoreFault) → Grew v u fs → AskedDivisible u w hs r → (y : Four) → AllStand u hs y
     → Built u w (odd_a_c (qubits_of v) y ∷ (odd_b_d (qubits_of v) y ∷ [])) r (λ b. b ≡ divisible (qubits_of v) y)
 unfolding AskedDivisible
 asked_later v u w fs hs r g m y h =
     subst (λ (s : Setting). Built u w (odd_a_c s.qubits y ∷ (odd_b_d s.qubits y ∷ [])) r (λ b. b ≡ divisible s.qubits y)) g.setting (m y h)
 
-divided_later : (v u w : Meaning) (fs : List Table) (hs : Columns) (r : Result Columns StoreFault) → Grew v u fs → ColumnsDivided u w hs r → (y : Four) → AllStand u hs y
+divided_later : (v u w : Meaning) (fs : List Table) (hs : Columns 24) (r : Result (Columns 24) StoreFault) → Grew v u fs → ColumnsDivided u w hs r → (y : Four) → AllStand u hs y
     → Built u w (division_plan (qubits_of v) y) r (λ z. AllStand w z (divided (qubits_of v) y))
 unfolding ColumnsDivided
 divided_later v u w fs hs r g m y h =
@@ -91,7 +91,7 @@ power_divides : (n k : ℕ) (y : Four) → divisible n y ≡ true → reduced_po
 unfolding reduced_power
 power_divides n k y e = cond-true (divisible n y) (reduced_power n k (divided n y)) (suc k) e
 
-module _ (v u w : Meaning) (start : Columns) (first : ℕ) (hs : Columns) (k : ℕ) (above : 0 < k) (a : Reducing v u start first hs k) where
+module _ (v u w : Meaning) (start : Columns 24) (first : ℕ) (hs : Columns 24) (k : ℕ) (above : 0 < k) (a : Reducing v u start first hs k) where
   lower : k ≡ suc (k - 1)
   lower = omega arith
 
@@ -119,12 +119,12 @@ module _ (v u w : Meaning) (start : Columns) (first : ℕ) (hs : Columns) (k : �
             (grew_then b.made (odd_a_c n b.y ∷ (odd_b_d n b.y ∷ [])) b.grew c.0),
         record {
           power = ek ∙ lower ∙ sym (b.left_power ∙ power_stays n (k - 1) b.y no_more);
-          stand = subst (λ (z : Columns). AllStand w z (reduced_columns n first x)) (sym ec)
+          stand = subst (λ (z : Columns 24). AllStand w z (reduced_columns n first x)) (sym ec)
               (subst (λ (z : Four). AllStand w hs z) (sym (b.left_columns ∙ columns_stay n (k - 1) b.y no_more)) (all_keep u w _ c.0 hs b.y b.stand));
         },
       )
 
-module _ (v u t w : Meaning) (start : Columns) (first : ℕ) (hs : Columns) (k : ℕ) (above : 0 < k) (a : Reducing v u start first hs k)
+module _ (v u t w : Meaning) (start : Columns 24) (first : ℕ) (hs : Columns 24) (k : ℕ) (above : 0 < k) (a : Reducing v u start first hs k)
     (answer : Bool) (is : answer ≡ true) (asked : AskedDivisible u t hs (Ok answer)) where
   -- both odd sums are made, and are 0
   sums : (x : Four) → (h : AllStand v start x) → let b = left v u t start first hs k above a x h in Grew u t (odd_sums (qubits_of v) b.y) × (divisible (qubits_of v) b.y ≡ true)
@@ -145,7 +145,7 @@ module _ (v u t w : Meaning) (start : Columns) (first : ℕ) (hs : Columns) (k :
       subst (λ (l : List Table). Stopped v w l e) (sym (b.left_plan ∙ ap (λ (l : List Table). b.made ++ l) (plan_divides n (k - 1) b.y c.1) ∙ sym (append_assoc b.made (odd_sums n b.y) _)))
       (stopped_after (b.made ++ odd_sums n b.y) _ g (stopped_before (division_plan n b.y) _ (divided_later v t w _ hs (Err e) g m b.y stand)))
 
-  pub reducing_more : (hs' : Columns) → ColumnsDivided t w hs (Ok hs') → Reducing v w start first hs' (k - 1)
+  pub reducing_more : (hs' : Columns 24) → ColumnsDivided t w hs (Ok hs') → Reducing v w start first hs' (k - 1)
   unfolding Reducing Built
   reducing_more hs' m x h =
       let n = qubits_of v in

@@ -12,7 +12,7 @@ use Rattle.columns.specs.Columns.{AllStand}
 use Rattle.reductions.specs.declared.reduced.Reduced.{Reduced}
 
 -- Both odd sums are made, whatever the first is, and the answer is whether √2 divides the columns.
-unfoldable pub AskedDivisible : Meaning → Meaning → Columns → Result Bool StoreFault → Type 0
+unfoldable pub AskedDivisible : Meaning → Meaning → Columns 24 → Result Bool StoreFault → Type 0
 AskedDivisible v w hs r =
     (x : Four) → AllStand v hs x
     → Built v w (odd_a_c (qubits_of v) x ∷ (odd_b_d (qubits_of v) x ∷ [])) r (λ b. b ≡ divisible (qubits_of v) x)
@@ -21,7 +21,7 @@ AskedDivisible v w hs r =
 unfoldable pub division_plan : ℕ → Four → List Table
 division_plan n x = for_each (λ k. summed_plan n (all_repeated x) (root_sum k)) []
 
-unfoldable pub ColumnsDivided : Meaning → Meaning → Columns → Result Columns StoreFault → Type 0
+unfoldable pub ColumnsDivided : Meaning → Meaning → Columns 24 → Result (Columns 24) StoreFault → Type 0
 ColumnsDivided v w hs r =
     (x : Four) → AllStand v hs x
     → Built v w (division_plan (qubits_of v) x) r (λ y. AllStand w y (divided (qubits_of v) x))
@@ -36,7 +36,7 @@ pub record ReducedTo (w : Meaning) (n k : ℕ) (x : Four) (y : Reduced) : Type 0
   pub power : y.power.0 ≡ reduced_power n k x
   pub stand : AllStand w y.columns (reduced_columns n k x)
 
-unfoldable pub ColumnsReduced : Meaning → Meaning → Columns → ℕ → Result Reduced StoreFault → Type 0
+unfoldable pub ColumnsReduced : Meaning → Meaning → Columns 24 → ℕ → Result Reduced StoreFault → Type 0
 ColumnsReduced v w hs k r =
     (x : Four) → AllStand v hs x
     → Built v w (reduction_plan (qubits_of v) k x) r (ReducedTo w (qubits_of v) k x)

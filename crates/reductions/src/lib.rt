@@ -16,7 +16,7 @@ pub use reduced::Reduced;
 
 /// Whether √2 divides every quadruple: makes the odd sums of the lowest slices, of a with c and of b with d, and asks
 /// whether both are the constant 0, which has handle 0.
-pub fn divisible<S: FunctionStore>(store: &mut S, columns: &Columns) -> Result<bool, StoreFault>
+pub fn divisible<S: FunctionStore>(store: &mut S, columns: &Columns<24>) -> Result<bool, StoreFault>
     requires order { S.ordered store.old }
     ensures order { S.ordered store.new }
     ensures asked { AskedDivisible (S.meaning store.old) (S.meaning store.new) columns.now result }
@@ -36,7 +36,10 @@ fn drop_lowest(column: &Column<24>) -> Column<24>
 
 /// Divided by √2: each top slice is repeated, the sums and differences are made, and their lowest slices go. Where √2 does
 /// not divide a quadruple, it is rounded down.
-pub fn divide<S: FunctionStore>(store: &mut S, columns: &Columns) -> Result<Columns, StoreFault>
+pub fn divide<S: FunctionStore>(
+    store: &mut S,
+    columns: &Columns<24>,
+) -> Result<Columns<24>, StoreFault>
     requires order { S.ordered store.old }
     requires room { length columns.now.a < 24 }
     ensures order { S.ordered store.new }
@@ -60,7 +63,7 @@ pub fn divide<S: FunctionStore>(store: &mut S, columns: &Columns) -> Result<Colu
 /// from the top meanwhile.
 pub fn reduce<S: FunctionStore>(
     store: &mut S,
-    mut columns: Columns,
+    mut columns: Columns<24>,
     power: RootTwoPower,
 ) -> Result<Reduced, StoreFault>
     requires order { S.ordered store.old }

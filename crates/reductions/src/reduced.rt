@@ -5,6 +5,6 @@ use exact::RootTwoPower;
 /// Columns that stand for quadruples divided by a power of √2.
 #[derive(Clone, Copy)]
 pub struct Reduced {
-    pub columns: Columns,
+    pub columns: Columns<24>,
     pub power: RootTwoPower,
 }

@@ -14,7 +14,7 @@ returns-in_err-normal-clause-applied g c = search (rules, on_state, apply_stoppe
 
 pub returns-clause-applied : goal.returns-clause-applied
 returns-clause-applied g c =
-    let wide : length c.in_ok-normal.normal.columns.a ≡ suc (length c.args.old.now.a) =
+    let wide : length c.in_ok-normal.normal.columns.a ≡ suc (length c.args.old.now.handles.a) =
     c.in_ok-normal.ensures.slices ∙ c.in_ok-columns.ensures.slices ∙ c.repeat_tops-repeated.ensures.slices ∙ ap suc c.columns.ensures.slices in
     on_state _ _ _ _ _ _ (apply_done _ _ _ _ _ _ _ _ c.in_ok-literals.ensures.made _ _ c.columns.ensures c.repeat_tops-repeated.ensures _ c.of.ensures
     _ c.in_ok-columns.ensures.made _ (ap (λ (k : RootTwoPower). k.0 + c.args.old.now.power.0) c.gate_power.ensures.is)
