@@ -6,6 +6,7 @@ use std::marker::Model;
 
 /// The handles of a column's slices, the lowest slice first: at most N. Unused places are 0, so that two columns are equal
 /// if their slices are.
+// No `ArrayVec`: that is no `Copy`, and a record is copied.
 #[derive(Clone, Copy, PartialEq, Eq)]
 pub struct Column<const N: usize> {
     slices: [u32; N],

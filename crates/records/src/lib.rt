@@ -76,6 +76,7 @@ impl Record {
     }
 
     /// Whether two records are equal: power, width and every handle.
+    // `==` with a contract: what `==` itself ensures speaks of the places of columns.
     pub fn same(&self, other: &Record) -> bool
         ensures { Decides result (self.now ≡ other.now) }
     {
