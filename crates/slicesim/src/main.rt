@@ -25,8 +25,7 @@ proved with rattle-kit-13f logic dac8208d650f15bf";
 /// Ends with status 1 where a text was refused or something failed, once everything that is to be said has been written.
 fn main(rt: HostRuntime) -> ExitCode {
     match run(&rt) {
-        Ok(true) => ExitCode::SUCCESS,
-        Ok(false) => ExitCode::FAILURE,
+        Ok(status) => status,
         Err(error) => {
             let _ = eprintln!(rt; "slicesim: {error}");
             ExitCode::FAILURE
@@ -34,17 +33,17 @@ fn main(rt: HostRuntime) -> ExitCode {
     }
 }
 
-/// Does what the arguments ask for, and says whether the text was accepted.
-fn run(rt: &HostRuntime) -> anyhow::Result<bool> {
+/// Does what the arguments ask for. A text that is refused has status 1.
+fn run(rt: &HostRuntime) -> anyhow::Result<ExitCode> {
     match input::asked(rt)? {
         Request::Help => println!(rt; "{HELP}")?,
         Request::Version => println!(rt; "{VERSION}")?,
         Request::Check(text) => return answer(rt, CircuitText::check(text)),
     }
-    Ok(true)
+    Ok(ExitCode::SUCCESS)
 }
 
-fn answer(rt: &HostRuntime, checked: Result<CircuitText, TextFault>) -> anyhow::Result<bool> {
+fn answer(rt: &HostRuntime, checked: Result<CircuitText, TextFault>) -> anyhow::Result<ExitCode> {
     match checked {
         Ok(circuit) => {
             let Form {
@@ -55,11 +54,11 @@ fn answer(rt: &HostRuntime, checked: Result<CircuitText, TextFault>) -> anyhow::
             } = circuit.form();
             println!(rt; "qubits {qubits}")?;
             println!(rt; "form opens {opens} steps {steps} reads {reads}")?;
-            Ok(true)
+            Ok(ExitCode::SUCCESS)
         }
         Err(fault) => {
             explain::refuse(rt, fault)?;
-            Ok(false)
+            Ok(ExitCode::FAILURE)
         }
     }
 }
