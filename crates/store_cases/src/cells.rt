@@ -4,7 +4,7 @@ ghost use Rattle.std.specs.Prelude.{◌≡◌, ◌<◌, IfOk, replicate, slice_s
 use anyhow::anyhow;
 use exact::Qubit;
 use functions::{FunctionStore, StoreFault};
-use std::io;
+use std::{fmt, io};
 
 const CELLS: usize = 16;
 
@@ -62,17 +62,11 @@ impl<S: FunctionStore> Cells<S> {
         match words {
             ["value", f, index] => {
                 let f = self.handle(f)?;
-                match self.store.value(f, index.parse::<u32>()?) {
-                    Ok(bit) => println!(rt; "{bit}")?,
-                    Err(fault) => refused(rt, fault, &[f])?,
-                }
+                answered(rt, self.store.value(f, index.parse::<u32>()?), &[f])?;
             }
             ["ones", f] => {
                 let f = self.handle(f)?;
-                match self.store.ones(f) {
-                    Ok(ones) => println!(rt; "{ones}")?,
-                    Err(fault) => refused(rt, fault, &[f])?,
-                }
+                answered(rt, self.store.ones(f), &[f])?;
             }
             ["same", f, g] => {
                 let same = self.handle(f)? == self.handle(g)?;
@@ -96,10 +90,7 @@ impl<S: FunctionStore> Cells<S> {
         for cell in cells.split(',') {
             list.push(self.handle(cell)?)?;
         }
-        match self.store.keep(&list) {
-            Ok(()) => println!(rt; "kept")?,
-            Err(fault) => refused(rt, fault, &list)?,
-        }
+        answered(rt, self.store.keep(&list).map(|()| "kept"), &list)?;
         Ok(())
     }
 
@@ -156,6 +147,18 @@ fn place(cell: &str) -> anyhow::Result<usize>
         return Err(anyhow!("a cell is past the last"));
     }
     Ok(place)
+}
+
+// Prints what a call answered, or its refusal.
+fn answered<T: fmt::Display + Drop>(
+    rt: &HostRuntime,
+    answer: Result<T, StoreFault>,
+    asked: &[u32],
+) -> io::Result<()> {
+    match answer {
+        Ok(value) => println!(rt; "{value}"),
+        Err(fault) => refused(rt, fault, asked),
+    }
 }
 
 // A refusal. A handle is told by its place among those of the call, since its number is the store's own.
