@@ -1,5 +1,5 @@
 -- Answers that stay right while a diagram grows.
-use Rattle.std.proofs.Common.{ℕ, Some, None, IfSome, Option}
+use Rattle.std.proofs.Common.{◌≡◌, ℕ, Some, None, IfSome, Option}
 use Rattle.std.proofs.lemmas.List.Elements.{All-weaker}
 use Rattle.diagrams.specs.Diagrams.{Diagram, Reduced}
 use Rattle.diagrams.specs.Forming.{Keeps, Formed}
@@ -34,9 +34,9 @@ right_kept n s t o k q r x = record {
   formed = formed_same t t (asked s q) (asked t q) r (same_back (asked t q) (asked s q) (asked_kept n s t o k q x.given)) (formed_again n s s t (asked s q) r o k x.formed);
 }
 
-answer_kept : (n : ℕ) (s t : Diagram) → Reduced n s → Keeps s t → (e : Option Answered) → IfSome e (λ x. Right s x.question x.answer) → IfSome e (λ x. Right t x.question x.answer)
-answer_kept n s t o k (Some e) x = right_kept n s t o k e.question e.answer x
-answer_kept n s t o k None x = x
+answer_kept : (n : ℕ) (s t : Diagram) → Reduced n s → Keeps s t → (g : ℕ) (e : Option Answered) → IfSome e (λ x. x.generation ≡ g → Right s x.question x.answer) → IfSome e (λ x. x.generation ≡ g → Right t x.question x.answer)
+answer_kept n s t o k g (Some e) x = λ p. right_kept n s t o k e.question e.answer (x p)
+answer_kept n s t o k g None x = x
 
 pub sound_kept : (n : ℕ) (s t : Diagram) → Reduced n s → Keeps s t → (m : Remembered) → Sound s m → Sound t m
-sound_kept n s t o k m x = All-weaker (λ e. IfSome e (λ x. Right s x.question x.answer)) (λ e. IfSome e (λ x. Right t x.question x.answer)) (answer_kept n s t o k) m.entries x
+sound_kept n s t o k m x = All-weaker (λ e. IfSome e (λ x. x.generation ≡ m.generation → Right s x.question x.answer)) (λ e. IfSome e (λ x. x.generation ≡ m.generation → Right t x.question x.answer)) (answer_kept n s t o k m.generation) m.entries x

@@ -30,10 +30,10 @@ key (Fixed x) = bit_xor (bit_xor (bit_xor x.f (x.height * 2 ^ 17 % 2 ^ 64)) (con
 unfoldable pub slot_of : Question → ℕ
 slot_of q = key q * 11400714819323198485 % 2 ^ 64 / 2 ^ 52
 
--- the slot of a question has its answer
+-- the slot of a question has its answer, of the present generation
 abbrev pub Remembers : Remembered → Question → ℕ → Type 0
-Remembers m q answer = slice_index_or m.entries (slot_of q) None ≡ Some (record { question = q; answer = answer })
+Remembers m q answer = slice_index_or m.entries (slot_of q) None ≡ Some (record { question = q; answer = answer; generation = m.generation })
 
--- every answer that is remembered is right
+-- every answer that is remembered is right: those of the present generation
 abbrev pub Sound : Diagram → Remembered → Type 0
-Sound s m = All (λ e. IfSome e (λ x. Right s x.question x.answer)) m.entries
+Sound s m = All (λ e. IfSome e (λ x. x.generation ≡ m.generation → Right s x.question x.answer)) m.entries

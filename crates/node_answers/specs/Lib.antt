@@ -1,2 +1,3 @@
+pub mod Generations
 pub mod Answers
 pub mod Counts

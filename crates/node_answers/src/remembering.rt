@@ -16,6 +16,7 @@ impl Remembered {
     {
         Remembered {
             entries: [None; 4096],
+            generation: 0,
         }
     }
 
@@ -25,7 +26,7 @@ impl Remembered {
         ensures right { (s : Diagram) → Sound s self.now → IfSome result (Right s question) }
     {
         let entry = self.entries[slot(question)]?;
-        (entry.question == question).then_some(entry.answer)
+        (entry.generation == self.generation && entry.question == question).then_some(entry.answer)
     }
 
     /// Remembers an answer, in place of any other in its slot.
@@ -34,7 +35,11 @@ impl Remembered {
         ensures others { (q : Question) (a : ℕ) → slot_of q ≢ slot_of question → (Remembers self.new q a ↔ Remembers self.old q a) }
         ensures sound { (s : Diagram) → Sound s self.old → Right s question answer → Sound s self.new }
     {
-        self.entries[slot(question)] = Some(Answered { question, answer });
+        self.entries[slot(question)] = Some(Answered {
+            question,
+            answer,
+            generation: self.generation,
+        });
     }
 
     /// Forgets everything.
@@ -42,7 +47,12 @@ impl Remembered {
         ensures none { (q : Question) (a : ℕ) → Remembers self.new q a → ⊥ }
         ensures sound { (s : Diagram) → Sound s self.new }
     {
-        self.entries.fill(None);
+        if self.generation == u32::MAX {
+            self.entries.fill(None);
+            self.generation = 0;
+        } else {
+            self.generation += 1;
+        }
     }
 }
 
