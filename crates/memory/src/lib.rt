@@ -10,6 +10,7 @@ use exact::Qubit;
 use functions::{Combination, FunctionStore, StoreFault};
 
 mod entry;
+mod recalling;
 mod recent;
 
 pub use entry::Remembered;
