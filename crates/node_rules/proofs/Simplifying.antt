@@ -1,6 +1,6 @@
 -- A combination in its simplest form, and one that is answered outright.
-use Rattle.std.proofs.Common.{◌≡◌, ℕ, ◌<◌, Bool, true, false, ◌⊎◌, sym, refl, ap, ◌∙◌, inl, inr, ⊎_elim, arith}
-use Rattle.std.proofs.lemmas.Bool.{cases_Bool}
+use Rattle.std.proofs.Common.{◌≡◌, ℕ, ◌<◌, ◌≤◌, Bool, true, false, ◌⊎◌, sym, refl, ap, ◌∙◌, inl, inr, ⊎_elim, arith}
+use Rattle.std.proofs.lemmas.Bool.{cases_Bool, cases_lt}
 use Rattle.functions.specs.Tables.{ruled}
 use Rattle.functions.specs.declared.combination.Combination.{Combination}
 use Rattle.node_rules.specs.declared.operands.Operand.TheVariants.{First, Second, Third}
@@ -31,9 +31,19 @@ either ignored given taken (inr x) = inl x.1
 module _ (c : Combination) (r₁ r₂ r₃ r₄ r₅ r₆ : ℕ)
     (m₁ : MergedIfEqual c.rule Third c.h Second c.g r₁) (m₂ : MergedIfEqual r₁ Third c.h First c.f r₂) (m₃ : MergedIfEqual r₂ Second c.g First c.f r₃)
     (s₁ : SetIfConstant r₃ First c.f r₄) (s₂ : SetIfConstant r₄ Second c.g r₅) (s₃ : SetIfConstant r₅ Third c.h r₆) where
-  equal_third : (c.h ≡ c.f) ⊎ (c.h ≡ c.g) → Ignores r₃ Third
-  equal_third (inl e) = m₃.still Third (λ q. omega (arith, ap weight q)) (m₂.equal (λ q. omega (arith, ap weight q)) e)
-  equal_third (inr e) = m₃.still Third (λ q. omega (arith, ap weight q)) (m₂.still Third (λ q. omega (arith, ap weight q)) (m₁.equal (λ q. omega (arith, ap weight q)) e))
+  equal_second : c.g ≡ c.f → Ignores r₆ Second
+  equal_second e = ⊎_elim (λ (l : c.g < 2). s₃.still Second (s₂.constant l))
+      (λ (l : 2 ≤ c.g). s₃.still Second (s₂.still Second (s₁.still Second (m₃.equal (λ q. omega (arith, ap weight q)) l e))))
+      (cases_lt c.g 2)
+
+  merged_third : 2 ≤ c.h → (c.h ≡ c.f) ⊎ (c.h ≡ c.g) → Ignores r₃ Third
+  merged_third l (inl e) = m₃.still Third (λ q. omega (arith, ap weight q)) (m₂.equal (λ q. omega (arith, ap weight q)) l e)
+  merged_third l (inr e) = m₃.still Third (λ q. omega (arith, ap weight q)) (m₂.still Third (λ q. omega (arith, ap weight q)) (m₁.equal (λ q. omega (arith, ap weight q)) l e))
+
+  equal_third : (c.h ≡ c.f) ⊎ (c.h ≡ c.g) → Ignores r₆ Third
+  equal_third e = ⊎_elim (λ (l : c.h < 2). s₃.constant l)
+      (λ (l : 2 ≤ c.h). s₃.still Third (s₂.still Third (s₁.still Third (merged_third l e))))
+      (cases_lt c.h 2)
 
   pub simplified : (f g h : ℕ) → Taken (Ignores r₆ First) c.f f → Taken (Ignores r₆ Second) c.g g → Taken (Ignores r₆ Third) c.h h → Simplified c (record { rule = r₆; f = f; g = g; h = h })
   simplified f g h tf tg th = record {
@@ -48,9 +58,9 @@ module _ (c : Combination) (r₁ r₂ r₃ r₄ r₅ r₆ : ℕ)
     third = th;
     first_constant = λ l. s₃.still First (s₂.still First (s₁.constant l));
     second_constant = λ l. s₃.still Second (s₂.constant l);
-    second_equal = λ e. s₃.still Second (s₂.still Second (s₁.still Second (m₃.equal (λ q. omega (arith, ap weight q)) e)));
+    second_equal = equal_second;
     third_constant = s₃.constant;
-    third_equal = λ e. s₃.still Third (s₂.still Third (s₁.still Third (equal_third e)));
+    third_equal = equal_third;
   }
 
 -- a rule that is constant or copies an operand

@@ -1,5 +1,5 @@
 -- A rule with an operand settled, where its handle is a constant or equals an earlier one.
-use Rattle.std.specs.Prelude.{◌≡◌, ℕ, ◌<◌, Bool}
+use Rattle.std.specs.Prelude.{◌≡◌, ℕ, ◌<◌, ◌≤◌, Bool}
 use Rattle.functions.specs.Tables.{ruled}
 use Rattle.node_rules.specs.declared.operands.Operand.{Operand}
 use Rattle.node_rules.specs.Rules.{bit_of, Ignores}
@@ -11,8 +11,9 @@ pub record SetIfConstant (rule : ℕ) (o : Operand) (h r : ℕ) : Type 0 where
   pub constant : h < 2 → Ignores r o
   pub still : (p : Operand) → Ignores rule p → Ignores r p
 
--- r answers as the rule does where the operand o has the value of another, and ignores it, if their handles are equal
+-- r answers as the rule does where the operand o has the value of another, and ignores it, if their handles are equal and no
+-- constant
 pub record MergedIfEqual (rule : ℕ) (o : Operand) (h : ℕ) (other : Operand) (k r : ℕ) : Type 0 where
   pub same : (a b c : Bool) → (h ≡ k → bit_of o a b c ≡ bit_of other a b c) → ruled r a b c ≡ ruled rule a b c
-  pub equal : (o ≡ other → ⊥) → h ≡ k → Ignores r o
+  pub equal : (o ≡ other → ⊥) → 2 ≤ h → h ≡ k → Ignores r o
   pub still : (p : Operand) → (p ≡ other → ⊥) → Ignores rule p → Ignores r p

@@ -52,11 +52,11 @@ fn set_if_constant(rule: u8, operand: Operand, handle: u32) -> u8
     }
 }
 
-// The rule that takes another operand for one, if their handles are equal.
+// The rule that takes another operand for one, if their handles are equal and no constant.
 fn merged_if_equal(rule: u8, operand: Operand, handle: u32, other: Operand, earlier: u32) -> u8
     ensures { MergedIfEqual rule operand handle other earlier result }
 {
-    if handle == earlier {
+    if handle == earlier && handle >= 2 {
         rules::merged(rule, operand, other)
     } else {
         rule
