@@ -63,22 +63,22 @@ by_question_none None e = refl
 
 -- what is told of a word tells the kind of line that it begins
 module _ (w : List ℕ) (m : Option Section) (told : m ≡ section_of w) where
-  pub section_kind : (s : Section) → m ≡ Some s → kind_of w ≡ SectionKind s
-  section_kind s e = ap (λ x. by_section x (by_step (step_of w) (by_question (question_of w)))) (sym told ∙ e)
+  pub is_section : (s : Section) → m ≡ Some s → kind_of w ≡ SectionKind s
+  is_section s e = ap (λ x. by_section x (by_step (step_of w) (by_question (question_of w)))) (sym told ∙ e)
 
   module _ (none : m ≡ None) (n : Option StepWord) (step_told : n ≡ step_of w) where
     past_section : kind_of w ≡ by_step n (by_question (question_of w))
     past_section = ap (λ x. by_section x (by_step (step_of w) (by_question (question_of w)))) (sym told ∙ none) ∙ ap (λ x. by_step x (by_question (question_of w))) (sym step_told)
 
-    pub step_kind : is_some n ≡ true → kind_of w ≡ StepKind
-    step_kind e = past_section ∙ by_step_some n _ e
+    pub is_step : is_some n ≡ true → kind_of w ≡ StepKind
+    is_step e = past_section ∙ by_step_some n _ e
 
     module _ (no_step : is_some n ≡ false) (q : Option QuestionWord) (question_told : q ≡ question_of w) where
-      pub question_kind : is_some q ≡ true → kind_of w ≡ QuestionKind
-      question_kind e = past_section ∙ by_step_none n _ no_step ∙ ap by_question (sym question_told) ∙ by_question_some q e
+      pub is_question : is_some q ≡ true → kind_of w ≡ QuestionKind
+      is_question e = past_section ∙ by_step_none n _ no_step ∙ ap by_question (sym question_told) ∙ by_question_some q e
 
-      pub opening_kind : is_some q ≡ false → kind_of w ≡ OpeningKind
-      opening_kind e = past_section ∙ by_step_none n _ no_step ∙ ap by_question (sym question_told) ∙ by_question_none q e
+      pub is_opening : is_some q ≡ false → kind_of w ≡ OpeningKind
+      is_opening e = past_section ∙ by_step_none n _ no_step ∙ ap by_question (sym question_told) ∙ by_question_none q e
 
 head_of : Line → List ℕ
 head_of (section s n) = section_word s
@@ -137,19 +137,19 @@ number_kind : (w : List ℕ) → 0 < length w → all_digits w ≡ true → kind
 number_kind [] l h = absurd (let b : ⊥ = omega arith in b)
 number_kind (b ∷ bs) l h = digit_kind b bs (and_parts (digit b) (all_digits bs) h).0
 
-step_word_kind : (s : StepWord) → kind_of (step_word s) ≡ StepKind
-step_word_kind (Gate X) = refl
-step_word_kind (Gate Z) = refl
-step_word_kind (Gate H) = refl
-step_word_kind (Gate S) = refl
-step_word_kind (Gate T) = refl
-step_word_kind (Gate Rx) = refl
-step_word_kind (Gate Ry) = refl
-step_word_kind (Gate Cx) = refl
-step_word_kind (Gate Cz) = refl
-step_word_kind (Gate Ccx) = refl
-step_word_kind Copy = refl
-step_word_kind Close = refl
+step_kind : (s : StepWord) → kind_of (step_word s) ≡ StepKind
+step_kind (Gate X) = refl
+step_kind (Gate Z) = refl
+step_kind (Gate H) = refl
+step_kind (Gate S) = refl
+step_kind (Gate T) = refl
+step_kind (Gate Rx) = refl
+step_kind (Gate Ry) = refl
+step_kind (Gate Cx) = refl
+step_kind (Gate Cz) = refl
+step_kind (Gate Ccx) = refl
+step_kind Copy = refl
+step_kind Close = refl
 
 head_kind : (n : ℕ) (x : Line) → FitsLine n x → kind_of (head_of x) ≡ line_kind x
 unfolding head_of line_kind FitsLine
@@ -158,7 +158,7 @@ head_kind n (section Opens total) f = refl
 head_kind n (section Steps total) f = refl
 head_kind n (section Reads total) f = refl
 head_kind n (opening o) f = number_kind (decimal o.register) (decimal_nonempty o.register (let h : o.register < 18446744073709551616 = omega (arith, f.0) in omega arith)) (decimal_digits o.register f.0)
-head_kind n (step s) f = step_word_kind s.name
+head_kind n (step s) f = step_kind s.name
 head_kind n (question (amp r bits)) f = refl
 head_kind n (question (weight r q b)) f = refl
 head_kind n (question (same r q)) f = refl

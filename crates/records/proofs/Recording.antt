@@ -13,7 +13,7 @@ use Rattle.records.specs.declared.excess.Excess.TheVariants.{Power, Width}
 use Rattle.records.specs.Records.{RecordStands, LeastWidth, CutTo, ColumnsTrimmed, Widened}
 
 -- a record that is cut from columns
-cut_stands : (v : Meaning) (hs : Columns 24) (power : RootTwoPower) (width : SliceCount) (r : Record) (x : Four) → width.0 ≤ length hs.a → CutTo hs power width r → AllStand v hs x
+pub cut_stands : (v : Meaning) (hs : Columns 24) (power : RootTwoPower) (width : SliceCount) (r : Record) (x : Four) → width.0 ≤ length hs.a → CutTo hs power width r → AllStand v hs x
     → AllStand v r.handles (λ k. take width.0 (x k))
 cut_stands v hs power width r x l c h = lowest_stand hs width.0 r.handles c.lowest v x l h
 
