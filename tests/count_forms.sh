@@ -18,7 +18,7 @@ find_lines '4 equality, copies, conversions' 'fn (same\w*|is_for|is_node|both_ze
 find_lines '4 printing' 'refused \{|"\{\w\} \{\w\} |form opens|: qubits \{'
 find_lines '6 arrays' '\[\w+; \w+\]'
 find_lines '6 words handed over' 'words: Vec<'
-find_lines '7 steps chosen by a kind' '^\s*match (self|kind\(.*\)|figure|operand|carry|question_name\(.*\)\?|name|fault) \{'
+find_lines '7 steps chosen by a kind' '^\s*match (self|kind\(.*\)|figure|operand|carry|question_name\(.*\)\?|keyword\(.*\)\?|name|fault) \{'
 
 echo '5 clauses that stand three times or more, in all crates'
 grep -rhoE --include='*.rt' '(requires|ensures)( [a-z_]+)? \{.*\}' crates/*/src |
